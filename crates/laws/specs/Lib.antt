@@ -1,0 +1,2 @@
+-- Laws of the definitions in crates/rules, for proofs to cite in place of the definitions' text.
+pub mod Tests

@@ -1,0 +1,1 @@
+// Laws of the definitions that several crates' proofs cite; no code.
