@@ -1,0 +1,3 @@
+-- Laws of the plan file's bytes.
+pub mod Bytes
+pub mod Parts
