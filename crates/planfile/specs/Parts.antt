@@ -6,8 +6,8 @@ use mathlib.Core.Logic.{_⊎_, inl, inr}
 use Prim.Native.Nat.{ℕ, _+_, _*_, _-_, _≤_, _<_}
 use native.Mathlib.Omega.{arith}
 use native.Mathlib.Decide.{decLe}
-use native.Mathlib.Nat.{add-sub-cancel-left}
-use lib.ListN.{length, take, drop}
+use native.Mathlib.Nat.{add-sub-cancel-left, min-le-left}
+use lib.ListN.{length, take, drop, length-take}
 use lib.Dec.{leb, ltb, eqb}
 use borrow.Author.Tests.{lt-ltb, le-ltb, le-leb, lt-leb, eq-eqb, ne-eqb, leb-true, eqb-true}
 use Rattle.laws.specs.Tests.{pick-yes, pick-no, decided, and-yes, and-left, and-right, and-no-left, and-no-right}
@@ -75,9 +75,9 @@ fit-sum s e =
 pub part-within : (s : List ℕ) → partAnswer s .offset + partAnswer s .length ≤ length s
 part-within s =
     elim (decLe (length s) 65536) [
-      no h ↦ omega (arith, ap (λ (r : RowPart). r .offset) (part-long s (omega arith)), ap (λ (r : RowPart). r .length) (part-long s (omega arith)), empty LongFile)
+      | no h ↦ omega (arith, ap (λ (r : RowPart). r .offset) (part-long s (omega arith)), ap (λ (r : RowPart). r .length) (part-long s (omega arith)), empty LongFile)
       | yes h ↦ elim (decided (trailerFits s)) [
-        inl e ↦ omega (arith, ap (λ (r : RowPart). r .offset) (part-fits s h e), ap (λ (r : RowPart). r .length) (part-fits s h e), fit-sum s e)
+        | inl e ↦ omega (arith, ap (λ (r : RowPart). r .offset) (part-fits s h e), ap (λ (r : RowPart). r .length) (part-fits s h e), fit-sum s e)
         | inr e ↦ omega (arith, ap (λ (r : RowPart). r .offset) (part-unfit s h e), ap (λ (r : RowPart). r .length) (part-unfit s h e), empty BadTrailer)
       ]
     ]
@@ -88,3 +88,24 @@ found-within s r e = rw e (part-within s)
 pub partOf-found : (s : List ℕ) (r : RowPart) → r ≡ partAnswer s → take (r .offset + r .length - r .offset) (drop (r .offset) s) ≡ partOf s
 unfolding partOf
 partOf-found s r e = rw e (ap (λ (n : ℕ). take n (drop (partAnswer s .offset) s)) (add-sub-cancel-left (partAnswer s .offset) (partAnswer s .length)))
+
+-- 2,000 rows at the most
+pub fit-count : (s : List ℕ) → trailerFits s ≡ true → trailerCount s ≤ 2000
+unfolding trailerFits
+fit-count s e =
+    leb-true (trailerCount s) 2000
+    (and-left (leb (trailerCount s) 2000) (sums s) (and-right (leb 8 (length s)) (leb (trailerCount s) 2000 && sums s) e))
+
+pub most-length : (s : List ℕ) → partAnswer s .length ≤ 24000
+most-length s =
+    elim (decLe (length s) 65536) [
+      | no h ↦ omega (arith, ap (λ (r : RowPart). r .length) (part-long s (omega arith)), empty LongFile)
+      | yes h ↦ elim (decided (trailerFits s)) [
+        | inl e ↦ omega (arith, ap (λ (r : RowPart). r .length) (part-fits s h e), fit-count s e)
+        | inr e ↦ omega (arith, ap (λ (r : RowPart). r .length) (part-unfit s h e), empty BadTrailer)
+      ]
+    ]
+
+pub part-length : (s : List ℕ) → length (partOf s) ≤ 24000
+unfolding partOf
+part-length s = omega (arith, length-take (partAnswer s .length) (drop (partAnswer s .offset) s), most-length s, min-le-left (partAnswer s .length) (length (drop (partAnswer s .offset) s)))
