@@ -1,0 +1,2 @@
+-- The three demands as theorems about the definitions in crates/rules.
+pub mod Test
