@@ -9,6 +9,7 @@ use borrow.Author.Tests.{leb-true, le-leb, ltb-true, lt-ltb, eqb-true, eq-eqb, e
 use Rattle.rules.specs.Basics.{All, Some, Pairs, every, some, everyPair, within}
 use Rattle.rules.specs.Plans.{Row, Job, Plan, Apart, Serves, minutesOf, apart, serves, rowGood, pairGood, isPlan}
 use Rattle.laws.specs.Tests.{decided, and-yes, and-left, and-right, or-left, or-right, or-no, or-cases, or-no-left, or-no-right, within-yes, within-low, within-high, every-all, all-every, some-one, one-some, everyPair-pairs, pairs-everyPair, map-all}
+use Rattle.theory.specs.Lists.{all-and, map-pairs, pairs-and}
 
 -- two rows apart; a row that serves a job
 
@@ -94,20 +95,6 @@ pairGood-yes r s g =
   where
     met : Bool
     met = eqb (r .board) (s .board) || eqb (r .job) (s .job)
-
--- laws of lists: facts of all elements taken together and apart
-
-pub all-and : {A : Type 0} (P Q R : A → Type 0) → ((x : A) → P x → Q x → R x) → (xs : List A) → All P xs → All Q xs → All R xs
-all-and P Q R f [] p q = tt
-all-and P Q R f (x ∷ xs) p q = (f x (p .0) (q .0), all-and P Q R f xs (p .1) (q .1))
-
-pub map-pairs : {A : Type 0} (P Q : A → A → Type 0) → ((x y : A) → P x y → Q x y) → (xs : List A) → Pairs P xs → Pairs Q xs
-map-pairs P Q f [] p = tt
-map-pairs P Q f (x ∷ xs) p = (map-all (P x) (Q x) (f x) xs (p .0), map-pairs P Q f xs (p .1))
-
-pub pairs-and : {A : Type 0} (P Q R : A → A → Type 0) → ((x y : A) → P x y → Q x y → R x y) → (xs : List A) → Pairs P xs → Pairs Q xs → Pairs R xs
-pairs-and P Q R f [] p q = tt
-pairs-and P Q R f (x ∷ xs) p q = (all-and (P x) (Q x) (R x) (f x) xs (p .0) (q .0), pairs-and P Q R f xs (p .1) (q .1))
 
 -- the whole test
 
