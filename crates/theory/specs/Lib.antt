@@ -2,3 +2,4 @@
 pub mod Lists
 pub mod Test
 pub mod DueOrder
+pub mod Choice

@@ -1,14 +1,14 @@
 -- Laws of lists: what holds of a list behind another, and of the same elements in another order.
 use mathlib.Core.Path.{_≡_, refl, sym, _∙_, ap}
-use mathlib.Core.Bool.{Bool, true, false, not, _&&_, _||_}
+use mathlib.Core.Bool.{Bool, true, false, not, _&&_, _||_, true≢false, false≢true}
 use mathlib.Core.List.{List, [], _∷_, _++_}
 use mathlib.Core.Logic.{_⊎_, inl, inr}
-use Prim.Native.Nat.{ℕ, suc, _+_, _≤_, _<_}
+use Prim.Native.Nat.{ℕ, zero, suc, _+_, _≤_, _<_}
 use native.Mathlib.Omega.{arith}
-use lib.ListN.{length, length-append}
+use lib.ListN.{length, getD, length-append}
 use lib.Dec.{eqb}
 use Rattle.rules.specs.Basics.{pick, All, Some, Pairs, every, some}
-use Rattle.laws.specs.Tests.{map-all}
+use Rattle.laws.specs.Tests.{map-all, decided, and-yes, and-left, and-right}
 
 -- a test's two ways, each with its equation
 pub pick-either {ℓ} : {A : Type ℓ} (P : A → Type 0) (b : Bool) (x y : A) → (b ≡ true → P x) → (b ≡ false → P y) → P (pick b x y)
@@ -131,3 +131,33 @@ same-total f same-none = refl
 same-total f (same-one {x = x} s) = ap (λ (n : ℕ). f x + n) (same-total f s)
 same-total f (same-two {x = x} {y = y} {xs = xs}) = omega arith
 same-total f (same-then s t) = same-total f s ∙ same-total f t
+
+-- a fact of each place of a list: of the first, and of those after it
+
+pub each-cons : (P : ℕ → ℕ → Type 0) (x : ℕ) (xs : List ℕ) → P 0 x → ((i : ℕ) → i < length xs → P (suc i) (getD xs i 0)) → (i : ℕ) → i < length (x ∷ xs) → P i (getD (x ∷ xs) i 0)
+each-cons P x xs p f zero l = p
+each-cons P x xs p f (suc i) l = f i (omega arith)
+
+pub all-at : (P : ℕ → Type 0) (xs : List ℕ) → All P xs → (i : ℕ) → i < length xs → P (getD xs i 0)
+all-at P [] a i l = absurd (omega arith)
+all-at P (x ∷ xs) a zero l = a .0
+all-at P (x ∷ xs) a (suc i) l = all-at P xs (a .1) i (omega arith)
+
+pub every-at : (p : ℕ → Bool) (xs : List ℕ) → every p xs ≡ true → (i : ℕ) → i < length xs → p (getD xs i 0) ≡ true
+unfolding every
+every-at p [] e i l = absurd (omega arith)
+every-at p (x ∷ xs) e zero l = and-left (p x) (every p xs) e
+every-at p (x ∷ xs) e (suc i) l = every-at p xs (and-right (p x) (every p xs) e) i (omega arith)
+
+pub every-but : (p : ℕ → Bool) (xs : List ℕ) → every p xs ≡ false → (i : ℕ) × (i < length xs) × (p (getD xs i 0) ≡ false)
+unfolding every
+every-but p [] e = absurd (true≢false e)
+every-but p (x ∷ xs) e =
+    elim (decided (p x)) [
+      | inl h ↦
+          elim (decided (every p xs)) [
+            | inl k ↦ absurd (true≢false (sym (and-yes (p x) (every p xs) h k) ∙ e))
+            | inr k ↦ let (i, l, q) = every-but p xs k in (suc i, omega arith, q)
+          ]
+      | inr h ↦ (0, omega arith, h)
+    ]
