@@ -8,6 +8,7 @@ use native.Mathlib.Omega.{arith}
 use lib.ListN.{length, getD, length-append}
 use lib.Dec.{eqb}
 use Rattle.rules.specs.Basics.{pick, All, Some, Pairs, every, some}
+use Rattle.theory.specs.Demands.{total}
 use Rattle.laws.specs.Tests.{map-all, decided, and-yes, and-left, and-right}
 
 -- a test's two ways, each with its equation
@@ -15,10 +16,7 @@ pub pick-either {ℓ} : {A : Type ℓ} (P : A → Type 0) (b : Bool) (x y : A) �
 pick-either P true x y f g = f refl
 pick-either P false x y f g = g refl
 
--- the sum of a number of each element
-abbrev pub total : {A : Type 0} → (A → ℕ) → List A → ℕ
-total f [] = 0
-total f (x ∷ xs) = f x + total f xs
+-- sums
 
 pub total-append : {A : Type 0} (f : A → ℕ) (xs ys : List A) → total f (xs ++ ys) ≡ total f xs + total f ys
 total-append f [] ys = omega arith
