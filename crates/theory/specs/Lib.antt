@@ -7,3 +7,7 @@ pub mod Demands
 pub mod Steps
 pub mod Laid
 pub mod Runs
+pub mod Minutes
+pub mod Fits
+pub mod Free
+pub mod Covers
