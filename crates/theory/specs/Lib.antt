@@ -11,3 +11,4 @@ pub mod Minutes
 pub mod Fits
 pub mod Free
 pub mod Covers
+pub mod Unmet
