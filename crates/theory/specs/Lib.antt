@@ -12,3 +12,5 @@ pub mod Fits
 pub mod Free
 pub mod Covers
 pub mod Unmet
+pub mod Few
+pub mod Proved
