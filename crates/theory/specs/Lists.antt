@@ -1,13 +1,16 @@
 -- Laws of lists: what holds of a list behind another, and of the same elements in another order.
 use mathlib.Core.Path.{_≡_, refl, sym, _∙_, ap}
 use mathlib.Core.Bool.{Bool, true, false, not, _&&_, _||_, true≢false, false≢true}
-use mathlib.Core.List.{List, [], _∷_, _++_}
+use mathlib.Core.List.{List, [], _∷_, _++_, map}
 use mathlib.Core.Logic.{_⊎_, inl, inr}
 use Prim.Native.Nat.{ℕ, zero, suc, _+_, _≤_, _<_}
 use native.Mathlib.Omega.{arith}
+use native.Mathlib.Decide.{ℕ-discrete}
+use borrow.Author.Tests.{ne-eqb}
 use lib.ListN.{length, getD, length-append}
 use lib.Dec.{eqb}
 use Rattle.rules.specs.Basics.{pick, All, Some, Pairs, every, some}
+use Rattle.theory.specs.Demands.{total, distinct}
 use Rattle.laws.specs.Tests.{map-all, decided, and-yes, and-left, and-right}
 
 -- a test's two ways, each with its equation
@@ -15,10 +18,7 @@ pub pick-either {ℓ} : {A : Type ℓ} (P : A → Type 0) (b : Bool) (x y : A) �
 pick-either P true x y f g = f refl
 pick-either P false x y f g = g refl
 
--- the sum of a number of each element
-abbrev pub total : {A : Type 0} → (A → ℕ) → List A → ℕ
-total f [] = 0
-total f (x ∷ xs) = f x + total f xs
+-- sums
 
 pub total-append : {A : Type 0} (f : A → ℕ) (xs ys : List A) → total f (xs ++ ys) ≡ total f xs + total f ys
 total-append f [] ys = omega arith
@@ -131,6 +131,36 @@ same-total f same-none = refl
 same-total f (same-one {x = x} s) = ap (λ (n : ℕ). f x + n) (same-total f s)
 same-total f (same-two {x = x} {y = y} {xs = xs}) = omega arith
 same-total f (same-then s t) = same-total f s ∙ same-total f t
+
+pub same-map : {A B : Type 0} {xs ys : List A} (f : A → B) → Same xs ys → Same (map f xs) (map f ys)
+same-map f same-none = same-none
+same-map f (same-one s) = same-one (same-map f s)
+same-map f same-two = same-two
+same-map f (same-then s t) = same-then (same-map f s) (same-map f t)
+
+or-swap : (a b c : Bool) → (a || (b || c)) ≡ (b || (a || c))
+or-swap true true c = refl
+or-swap true false c = refl
+or-swap false true c = refl
+or-swap false false c = refl
+
+pub same-test : {A : Type 0} {xs ys : List A} (p : A → Bool) → Same xs ys → some p xs ≡ some p ys
+unfolding some
+same-test p same-none = refl
+same-test p (same-one {x = x} s) = ap (λ (b : Bool). p x || b) (same-test p s)
+same-test p (same-two {x = x} {y = y} {xs = xs}) = or-swap (p x) (p y) (some p xs)
+same-test p (same-then s t) = same-test p s ∙ same-test p t
+
+pub same-distinct : {xs ys : List ℕ} → Same xs ys → distinct xs ≡ distinct ys
+unfolding distinct some
+same-distinct same-none = refl
+same-distinct (same-one {x = x} {xs = xs} {ys = ys} s) = omega (arith, same-distinct s, ap (λ (b : Bool). pick {A = ℕ} b 0 1) (same-test (eqb x) s))
+same-distinct (same-two {x = x} {y = y} {xs = xs}) =
+    elim (ℕ-discrete x y) [
+      | yes e ↦ rw e
+      | no n ↦ rw (ne-eqb x y n, ne-eqb y x (λ e. n (sym e))) (omega arith)
+    ]
+same-distinct (same-then s t) = same-distinct s ∙ same-distinct t
 
 -- a fact of each place of a list: of the first, and of those after it
 

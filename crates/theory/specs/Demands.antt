@@ -1,0 +1,95 @@
+-- What the planner's customer demands, over the definitions of crates/rules: the plan is one, a refusal is right, the rows
+-- are few, and the boards are busy for exactly the total work. Only statements stand here, and this file needs no other to be read.
+use mathlib.Core.Path.{_≡_}
+use mathlib.Core.List.{List, [], _∷_, _++_, map}
+use Prim.Native.Nat.{ℕ, zero, suc, _+_, _-_, _*_, _≤_, _<_, min}
+use lib.ListN.{length, getD}
+use lib.Dec.{eqb}
+use Rattle.rules.specs.Basics.{pick, All, Pairs, some}
+use Rattle.rules.specs.Plans.{Job, Row, Plan, jobs}
+use Rattle.rules.specs.Planning.{Placing, placed, unplaced, placeAll, placing, dueOrder}
+
+-- the sum of a number of each element
+abbrev pub total : {A : Type 0} → (A → ℕ) → List A → ℕ
+total f [] = 0
+total f (x ∷ xs) = f x + total f xs
+
+-- a row's minutes on its board
+abbrev pub minutesIn : Row → ℕ
+minutesIn r = r .to - r .from
+
+-- how many rows a job has
+unfoldable pub rowsFor : ℕ → List Row → ℕ
+rowsFor number rows = total (λ r. pick (eqb (r .job) number) 1 0) rows
+
+-- how many different numbers a list has: each counts where it stands last
+unfoldable pub distinct : List ℕ → ℕ
+distinct [] = 0
+distinct (d ∷ ds) = pick (some (eqb d) ds) 0 1 + distinct ds
+
+-- No plan: the job of this number is the first in the order that cannot be met with those before it.
+pub record FirstUnmet (PlanFor : List Job → List Row → Type 0) (order : List Job) (number : ℕ) : Type 0 where
+  pub before : List Job
+  pub job : Job
+  pub after : List Job
+  pub in-order : order ≡ before ++ (job ∷ after)
+  pub named : job .number ≡ number
+  -- those before it have a plan
+  pub rows : List Row
+  pub met : PlanFor before rows
+  -- with it they have none
+  pub unmet : (rows : List Row) → PlanFor (before ++ (job ∷ [])) rows → ⊥
+
+-- The base
+
+-- What the planner's checks 12, 13 and 14 leave.
+pub record GoodDay (m : ℕ) (works dues : List ℕ) : Type 0 where
+  pub boards : 1 ≤ m
+  pub lists : length works ≡ length dues
+  pub some-job : 1 ≤ length works
+  pub works-good : All (λ w. 1 ≤ w) works
+  pub dues-good : All (λ d. 1 ≤ d) dues
+
+pub record Demands (m : ℕ) (works dues : List ℕ) : Type 0 where
+  -- the rows placed are a plan
+  pub plan : (rows : List Row) → placing m works dues ≡ placed rows → Plan m (jobs works dues) rows
+  -- a refusal names the first job in due order that cannot be met with those before it
+  pub first : (number : ℕ) → placing m works dues ≡ unplaced number → FirstUnmet (Plan m) (dueOrder (jobs works dues)) number
+  -- a refusal comes only where no plan exists
+  pub refused-right : (number : ℕ) → placing m works dues ≡ unplaced number → (rows : List Row) → Plan m (jobs works dues) rows → ⊥
+  -- and where no plan exists it comes
+  pub none-refused : ((rows : List Row) → Plan m (jobs works dues) rows → ⊥) → (number : ℕ) × (placing m works dues ≡ unplaced number)
+  -- n jobs with k different due minutes have at most n plus the smaller of n - 2 and k times (m - 1) rows
+  pub few : (rows : List Row) → placing m works dues ≡ placed rows → length rows ≤ length works + min (length works - 2) (distinct dues * (m - 1))
+  -- no job has more than two
+  pub two : (rows : List Row) → placing m works dues ≡ placed rows → (number : ℕ) → rowsFor number rows ≤ 2
+  -- the first job in due order has one
+  pub first-one : (rows : List Row) → placing m works dues ≡ placed rows → (j : Job) (js : List Job) → dueOrder (jobs works dues) ≡ j ∷ js → rowsFor (j .number) rows ≡ 1
+  -- and so has the last
+  pub last-one : (rows : List Row) → placing m works dues ≡ placed rows → (js : List Job) (j : Job) → dueOrder (jobs works dues) ≡ js ++ (j ∷ []) → rowsFor (j .number) rows ≡ 1
+  -- the busy minutes of all boards together equal the total work
+  pub busy : (rows : List Row) → placing m works dues ≡ placed rows → total minutesIn rows ≡ total (λ w. w) works
+
+-- Round what is already on the boards (W-207): each board is free from a given minute.
+
+-- a plan whose rows begin no earlier than their board is free
+pub record PlanRound (free : List ℕ) (js : List Job) (rows : List Row) : Type 0 where
+  pub plan : Plan (length free) js rows
+  pub after : All (λ r. getD free (r .board - 1) 0 ≤ r .from) rows
+
+-- jobs in due order, with work to do, and no two of one number
+pub record GoodOrder (js : List Job) : Type 0 where
+  pub sorted : Pairs (λ j k. j .due ≤ k .due) js
+  pub works-good : All (λ j. 1 ≤ j .work) js
+  pub differ : Pairs (λ j k. j .number ≡ k .number → ⊥) js
+
+pub record DemandsRound (free : List ℕ) (js : List Job) : Type 0 where
+  pub plan : (rows : List Row) → placeAll [] free js ≡ placed rows → PlanRound free js rows
+  pub first : (number : ℕ) → placeAll [] free js ≡ unplaced number → FirstUnmet (PlanRound free) js number
+  pub refused-right : (number : ℕ) → placeAll [] free js ≡ unplaced number → (rows : List Row) → PlanRound free js rows → ⊥
+  pub none-refused : ((rows : List Row) → PlanRound free js rows → ⊥) → (number : ℕ) × (placeAll [] free js ≡ unplaced number)
+  -- one more than in the base, since the first job may be moved too
+  pub few : (rows : List Row) → placeAll [] free js ≡ placed rows → length rows ≤ length js + min (length js - 1) (distinct (map (λ j. j .due) js) * (length free - 1))
+  pub two : (rows : List Row) → placeAll [] free js ≡ placed rows → (number : ℕ) → rowsFor number rows ≤ 2
+  pub last-one : (rows : List Row) → placeAll [] free js ≡ placed rows → (before : List Job) (j : Job) → js ≡ before ++ (j ∷ []) → rowsFor (j .number) rows ≡ 1
+  pub busy : (rows : List Row) → placeAll [] free js ≡ placed rows → total minutesIn rows ≡ total (λ j. j .work) js
