@@ -12,7 +12,7 @@ use borrow.Author.Tests.{ltb-true, ltb-false, lt-ltb, le-ltb, eqb-true, not-true
 use Rattle.rules.specs.declared.Refusal.{Refusal}
 use Rattle.rules.specs.declared.Refusal.the-variants.{BadBoards, BadLists, OutOfRange}
 use Rattle.rules.specs.declared.Checked.{Checked}
-use Rattle.rules.specs.Basics.{pick, every, everyPair, within, mostRows, mostJobs, mostMinutes}
+use Rattle.rules.specs.Basics.{pick, every, everyPair, within, mostBoards, mostRows, mostJobs, mostMinutes}
 use Rattle.rules.specs.Refusals.{numberOf}
 use Rattle.rules.specs.Plans.{Job, Row, Plan, jobsFrom, jobs, rowsOf, minutesOf, rowGood, pairGood, isPlan, preemptions}
 use Rattle.rules.specs.Planning.{badBoards, badLists, jobGood, firstOutFrom, firstOut}
@@ -136,7 +136,8 @@ pub answered : (m : ℕ) (works dues table : List ℕ) (count : ℕ) (r : Checke
 answered m works dues table count r e = (e, says-plans m works dues table count r e)
 
 -- what the tests of a day leave for the rows
-pub record Fit (works dues table : List ℕ) (count : ℕ) : Type 0 where
+pub record Fit (m : ℕ) (works dues table : List ℕ) (count : ℕ) : Type 0 where
+  pub most-boards : m ≤ 64
   pub most-rows : count ≤ 2000
   pub whole : 4 * count ≤ length table
   pub even : length works ≡ length dues
@@ -166,12 +167,13 @@ few-jobs works dues l =
     within-high 1 mostJobs (length works)
     (and-right (eqb (length works) (length dues)) (within 1 mostJobs (length works)) (not-false (eqb (length works) (length dues) && within 1 mostJobs (length works)) l))
 
-pub fit : (works dues table : List ℕ) (count : ℕ) → badLists works dues ≡ false → badTable table count ≡ false → firstOut works dues ≤ 0 → Fit works dues table count
-unfolding badLists badTable firstOut
-fit works dues table count l t o =
+pub fit : (m : ℕ) (works dues table : List ℕ) (count : ℕ) → badBoards m ≡ false → badLists works dues ≡ false → badTable table count ≡ false → firstOut works dues ≤ 0 → Fit m works dues table count
+unfolding badBoards badLists badTable firstOut
+fit m works dues table count b l t o =
     let fits = not-false (eqb (length works) (length dues) && within 1 mostJobs (length works)) l in
     let even : length works ≡ length dues = eqb-true (length works) (length dues) (and-left (eqb (length works) (length dues)) (within 1 mostJobs (length works)) fits) in
     record {
+      most-boards = within-high 1 mostBoards m (not-false (within 1 mostBoards m) b);
       most-rows = ltb-false mostRows count (or-no-left (ltb mostRows count) (ltb (length table) (4 * count)) t);
       whole = ltb-false (length table) (4 * count) (or-no-right (ltb mostRows count) (ltb (length table) (4 * count)) t);
       even = even;
@@ -245,6 +247,6 @@ out-of-range m works dues table count out r b l t e h s =
 pub decided-by-rows : (m : ℕ) (works dues table : List ℕ) (count out : ℕ) (plan : Bool) (r : Checked) → badBoards m ≡ false → badLists works dues ≡ false → badTable table count ≡ false
     → out ≡ firstOut works dues → out ≤ 0 → plan ≡ isPlan m (jobs works dues) (rowsOf count table) → r ≡ pick plan (saidYes (count - length works)) saidNo → r ≡ checkAnswer m works dues table count
 decided-by-rows m works dues table count out plan r b l t e h y s =
-    s ∙ verdict-picked plan works dues table count (fit works dues table count l t (omega arith) .even)
+    s ∙ verdict-picked plan works dues table count (fit m works dues table count b l t (omega arith) .even)
     ∙ ap (λ (a : Bool). verdict a (rowsOf count table) (jobs works dues)) y
     ∙ sym (at-rows m works dues table count b l t (omega arith))

@@ -1,7 +1,8 @@
--- Laws that the checker's proofs cite: loops with an early way out, the table's rows, a row alone, a job's minutes.
+-- Laws that the checker's proofs cite. Answer has what its contract says beside crates/rules: SaysPlans.
 pub mod Turns
 pub mod Rows
 pub mod Alone
 pub mod Minutes
-pub mod Apart
+pub mod InTurn
+pub mod Keys
 pub mod Answer
