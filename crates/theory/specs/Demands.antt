@@ -2,12 +2,12 @@
 -- are few, and the boards are busy for exactly the total work. Only statements stand here, and this file needs no other to be read.
 use mathlib.Core.Path.{_≡_}
 use mathlib.Core.List.{List, [], _∷_, _++_, map}
-use Prim.Native.Nat.{ℕ, zero, suc, _+_, _-_, _*_, _≤_, _<_, min}
+use Prim.Native.Nat.{ℕ, _+_, _-_, _*_, _≤_, min}
 use lib.ListN.{length, getD}
 use lib.Dec.{eqb}
 use Rattle.rules.specs.Basics.{pick, All, Pairs, some}
 use Rattle.rules.specs.Plans.{Job, Row, Plan, jobs}
-use Rattle.rules.specs.Planning.{Placing, placed, unplaced, placeAll, placing, dueOrder}
+use Rattle.rules.specs.Planning.{placed, unplaced, placeAll, placing, dueOrder}
 
 -- the sum of a number of each element
 abbrev pub total : {A : Type 0} → (A → ℕ) → List A → ℕ
@@ -26,6 +26,18 @@ rowsFor number rows = total (λ r. pick (eqb (r .job) number) 1 0) rows
 unfoldable pub distinct : List ℕ → ℕ
 distinct [] = 0
 distinct (d ∷ ds) = pick (some (eqb d) ds) 0 1 + distinct ds
+
+-- Demand 3's figures, for n jobs with k different due minutes on m boards: "n plus the smaller of n - 2 and k times (m - 1)".
+abbrev pub rowsAtMost : ℕ → ℕ → ℕ → ℕ
+rowsAtMost n k m = n + min (n - 2) (k * (m - 1))
+
+-- Round what is already there the first job may be moved too.
+abbrev pub rowsAtMostRound : ℕ → ℕ → ℕ → ℕ
+rowsAtMostRound n k m = n + min (n - 1) (k * (m - 1))
+
+-- and for each job
+abbrev pub rowsAtMostEach : ℕ
+rowsAtMostEach = 2
 
 -- No plan: the job of this number is the first in the order that cannot be met with those before it.
 pub record FirstUnmet (PlanFor : List Job → List Row → Type 0) (order : List Job) (number : ℕ) : Type 0 where
@@ -59,10 +71,10 @@ pub record Demands (m : ℕ) (works dues : List ℕ) : Type 0 where
   pub refused-right : (number : ℕ) → placing m works dues ≡ unplaced number → (rows : List Row) → Plan m (jobs works dues) rows → ⊥
   -- and where no plan exists it comes
   pub none-refused : ((rows : List Row) → Plan m (jobs works dues) rows → ⊥) → (number : ℕ) × (placing m works dues ≡ unplaced number)
-  -- n jobs with k different due minutes have at most n plus the smaller of n - 2 and k times (m - 1) rows
-  pub few : (rows : List Row) → placing m works dues ≡ placed rows → length rows ≤ length works + min (length works - 2) (distinct dues * (m - 1))
+  -- there are no more rows than demand 3 allows
+  pub few : (rows : List Row) → placing m works dues ≡ placed rows → length rows ≤ rowsAtMost (length works) (distinct dues) m
   -- no job has more than two
-  pub two : (rows : List Row) → placing m works dues ≡ placed rows → (number : ℕ) → rowsFor number rows ≤ 2
+  pub two : (rows : List Row) → placing m works dues ≡ placed rows → (number : ℕ) → rowsFor number rows ≤ rowsAtMostEach
   -- the first job in due order has one
   pub first-one : (rows : List Row) → placing m works dues ≡ placed rows → (j : Job) (js : List Job) → dueOrder (jobs works dues) ≡ j ∷ js → rowsFor (j .number) rows ≡ 1
   -- and so has the last
@@ -88,8 +100,7 @@ pub record DemandsRound (free : List ℕ) (js : List Job) : Type 0 where
   pub first : (number : ℕ) → placeAll [] free js ≡ unplaced number → FirstUnmet (PlanRound free) js number
   pub refused-right : (number : ℕ) → placeAll [] free js ≡ unplaced number → (rows : List Row) → PlanRound free js rows → ⊥
   pub none-refused : ((rows : List Row) → PlanRound free js rows → ⊥) → (number : ℕ) × (placeAll [] free js ≡ unplaced number)
-  -- one more than in the base, since the first job may be moved too
-  pub few : (rows : List Row) → placeAll [] free js ≡ placed rows → length rows ≤ length js + min (length js - 1) (distinct (map (λ j. j .due) js) * (length free - 1))
-  pub two : (rows : List Row) → placeAll [] free js ≡ placed rows → (number : ℕ) → rowsFor number rows ≤ 2
+  pub few : (rows : List Row) → placeAll [] free js ≡ placed rows → length rows ≤ rowsAtMostRound (length js) (distinct (map (λ j. j .due) js)) (length free)
+  pub two : (rows : List Row) → placeAll [] free js ≡ placed rows → (number : ℕ) → rowsFor number rows ≤ rowsAtMostEach
   pub last-one : (rows : List Row) → placeAll [] free js ≡ placed rows → (before : List Job) (j : Job) → js ≡ before ++ (j ∷ []) → rowsFor (j .number) rows ≡ 1
   pub busy : (rows : List Row) → placeAll [] free js ≡ placed rows → total minutesIn rows ≡ total (λ j. j .work) js
