@@ -16,3 +16,4 @@ pub mod Covers
 pub mod Unmet
 pub mod Few
 pub mod Proved
+pub mod Answers

@@ -168,11 +168,6 @@ pub each-cons : (P : ℕ → ℕ → Type 0) (x : ℕ) (xs : List ℕ) → P 0 x
 each-cons P x xs p f zero l = p
 each-cons P x xs p f (suc i) l = f i (omega arith)
 
-pub all-at : (P : ℕ → Type 0) (xs : List ℕ) → All P xs → (i : ℕ) → i < length xs → P (getD xs i 0)
-all-at P [] a i l = absurd (omega arith)
-all-at P (x ∷ xs) a zero l = a .0
-all-at P (x ∷ xs) a (suc i) l = all-at P xs (a .1) i (omega arith)
-
 pub every-at : (p : ℕ → Bool) (xs : List ℕ) → every p xs ≡ true → (i : ℕ) → i < length xs → p (getD xs i 0) ≡ true
 unfolding every
 every-at p [] e i l = absurd (omega arith)
