@@ -1,13 +1,13 @@
 -- Laws of lists: what holds of a list behind another, and of the same elements in another order.
 use mathlib.Core.Path.{_≡_, refl, sym, _∙_, ap}
-use mathlib.Core.Bool.{Bool, true, false, not, _&&_, _||_, true≢false, false≢true}
+use mathlib.Core.Bool.{Bool, true, false, _||_, true≢false}
 use mathlib.Core.List.{List, [], _∷_, _++_, map}
-use mathlib.Core.Logic.{_⊎_, inl, inr}
-use Prim.Native.Nat.{ℕ, zero, suc, _+_, _≤_, _<_}
+use mathlib.Core.Logic.{inl, inr}
+use Prim.Native.Nat.{ℕ, zero, suc, _+_, _<_}
 use native.Mathlib.Omega.{arith}
 use native.Mathlib.Decide.{ℕ-discrete}
 use borrow.Author.Tests.{ne-eqb}
-use lib.ListN.{length, getD, length-append}
+use lib.ListN.{length, getD}
 use lib.Dec.{eqb}
 use Rattle.rules.specs.Basics.{pick, All, Some, Pairs, every, some}
 use Rattle.theory.specs.Demands.{total, distinct}
@@ -154,7 +154,7 @@ same-test p (same-then s t) = same-test p s ∙ same-test p t
 pub same-distinct : {xs ys : List ℕ} → Same xs ys → distinct xs ≡ distinct ys
 unfolding distinct some
 same-distinct same-none = refl
-same-distinct (same-one {x = x} {xs = xs} {ys = ys} s) = omega (arith, same-distinct s, ap (λ (b : Bool). pick {A = ℕ} b 0 1) (same-test (eqb x) s))
+same-distinct (same-one {x = x} s) = rw (same-test (eqb x) s, same-distinct s)
 same-distinct (same-two {x = x} {y = y} {xs = xs}) =
     elim (ℕ-discrete x y) [
       | yes e ↦ rw e
@@ -167,11 +167,6 @@ same-distinct (same-then s t) = same-distinct s ∙ same-distinct t
 pub each-cons : (P : ℕ → ℕ → Type 0) (x : ℕ) (xs : List ℕ) → P 0 x → ((i : ℕ) → i < length xs → P (suc i) (getD xs i 0)) → (i : ℕ) → i < length (x ∷ xs) → P i (getD (x ∷ xs) i 0)
 each-cons P x xs p f zero l = p
 each-cons P x xs p f (suc i) l = f i (omega arith)
-
-pub all-at : (P : ℕ → Type 0) (xs : List ℕ) → All P xs → (i : ℕ) → i < length xs → P (getD xs i 0)
-all-at P [] a i l = absurd (omega arith)
-all-at P (x ∷ xs) a zero l = a .0
-all-at P (x ∷ xs) a (suc i) l = all-at P xs (a .1) i (omega arith)
 
 pub every-at : (p : ℕ → Bool) (xs : List ℕ) → every p xs ≡ true → (i : ℕ) → i < length xs → p (getD xs i 0) ≡ true
 unfolding every
