@@ -1,4 +1,5 @@
--- Laws that the checker's proofs cite. Answer has what its contract says beside crates/rules: SaysPlans.
+-- Laws that the checker's proofs cite. Answer has SaysPlans, the second clause of its contract; Agreed says that the
+-- planner's table passes.
 pub mod Turns
 pub mod Rows
 pub mod Alone
@@ -6,3 +7,4 @@ pub mod Minutes
 pub mod InTurn
 pub mod Keys
 pub mod Answer
+pub mod Agreed
