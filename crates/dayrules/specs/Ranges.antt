@@ -5,11 +5,11 @@ use mathlib.Core.Bool.{Bool, true, false, not, _&&_}
 use mathlib.Core.List.{List}
 use Prim.Native.Nat.{ℕ, _≤_, _<_}
 use lib.ListN.{length}
-use lib.Dec.{leb, ltb}
-use borrow.Author.Tests.{leb-true, leb-false, le-leb, lt-leb, eq-eqb, ne-eqb, lt-ltb, le-ltb}
-use Rattle.rules.specs.Basics.{within, mostJobs, mostMinutes}
-use Rattle.rules.specs.Planning.{jobGood, badLists}
-use Rattle.laws.specs.Tests.{decided}
+use lib.Dec.{leb, ltb, eqb}
+use borrow.Author.Tests.{not-false, eqb-true, leb-true, leb-false, le-leb, lt-leb, eq-eqb, ne-eqb, lt-ltb, le-ltb}
+use Rattle.rules.specs.Basics.{within, mostBoards, mostJobs, mostMinutes}
+use Rattle.rules.specs.Planning.{badBoards, jobGood, badLists}
+use Rattle.laws.specs.Tests.{decided, and-left, and-right, within-low, within-high}
 
 pub within-above : (low high n : ℕ) → low ≤ n → leb n high ≡ within low high n
 unfolding within
@@ -48,3 +48,15 @@ not-leb a b =
 pub lists-full : (works dues : List ℕ) → length works ≡ length dues → 1 ≤ length works → ltb mostJobs (length works) ≡ badLists works dues
 lists-full works dues e h =
     not-leb (length works) mostJobs ∙ lists-equal works dues (leb (length works) mostJobs) e (within-above 1 mostJobs (length works) h)
+
+-- what is known of a day that was not refused with 12 and 13
+pub boards-fit : (m : ℕ) → badBoards m ≡ false → (1 ≤ m) × (m ≤ mostBoards)
+unfolding badBoards
+boards-fit m e = (within-low 1 mostBoards m (not-false _ e), within-high 1 mostBoards m (not-false _ e))
+
+pub lists-fit : (works dues : List ℕ) → badLists works dues ≡ false → (length works ≡ length dues) × ((1 ≤ length works) × (length works ≤ mostJobs))
+unfolding badLists
+lists-fit works dues e =
+    let both : (eqb (length works) (length dues) && within 1 mostJobs (length works)) ≡ true = not-false _ e in
+    let few : within 1 mostJobs (length works) ≡ true = and-right (eqb (length works) (length dues)) _ both in
+    (eqb-true _ _ (and-left _ (within 1 mostJobs (length works)) both), (within-low 1 mostJobs (length works) few, within-high 1 mostJobs (length works) few))
