@@ -51,6 +51,11 @@ both P false x y p q = q
 
 -- ---- the day
 
+within-placed : (p : Placing) (table : List ℕ) → 4 * afterPlacing p table .said .rows ≤ length (afterPlacing p table .table)
+unfolding afterPlacing refusedPlan
+within-placed (unplaced number) table = omega arith
+within-placed (placed rows) table = omega (arith, length-append (numbersOf rows) (zeros (length table - 4 * length rows)), length-numbersOf rows)
+
 -- the rows stand within the table
 pub rows-within : (m : ℕ) (works dues table : List ℕ) → 4 * planAnswer m works dues table .said .rows ≤ length (planAnswer m works dues table .table)
 unfolding planAnswer refusedPlan
@@ -64,4 +69,98 @@ rows-within m works dues table =
     Within a = 4 * a .said .rows ≤ length (a .table)
 
     placing-within : (p : Placing) → Within (afterPlacing p table)
-    placing-within p = ?w
+    placing-within p = within-placed p table
+
+-- ---- lines do not depend on what the table held
+
+module _ (boards : ℕ) (works dues : List ℕ) where
+  abbrev lines-of : PlanAnswer → List ℕ
+  lines-of a = planLines boards works dues a
+
+  pub refusal-lines : (a : PlanAnswer) → (a .said .refusal ≡ 0 → ⊥) → lines-of a ≡ refusedLine (a .said .refusal) (a .said .place)
+  unfolding planLines
+  refusal-lines a h = pick-no (eqb (a .said .refusal) 0) _ _ (ne-eqb (a .said .refusal) 0 h)
+
+  pub plan-lines : (a : PlanAnswer) → a .said .refusal ≡ 0 → lines-of a ≡ planned (boards ∷ length (jobs works dues) ∷ length (rowsOf (a .said .rows) (a .table)) ∷ preemptions (rowsOf (a .said .rows) (a .table)) (jobs works dues) ∷ []) (rowsOf (a .said .rows) (a .table))
+  unfolding planLines planned
+  plan-lines a h = pick-yes (eqb (a .said .refusal) 0) _ _ (eq-eqb (a .said .refusal) 0 h)
+
+  -- the lines of what was placed
+  placing-lines : Placing → List ℕ
+  placing-lines (unplaced number) = refusedLine (numberOf NoPlan) number
+  placing-lines (placed rows) = planned (boards ∷ length (jobs works dues) ∷ length rows ∷ preemptions rows (jobs works dues) ∷ []) rows
+
+  refused-lines : (r : Refusal) (place : ℕ) (table : List ℕ) → (numberOf r ≡ 0 → ⊥) → lines-of (refusedPlan r place table) ≡ refusedLine (numberOf r) place
+  unfolding refusedPlan
+  refused-lines r place table h = refusal-lines (refusedPlan r place table) h
+
+  placed-lines : (p : Placing) (table : List ℕ) → lines-of (afterPlacing p table) ≡ placing-lines p
+  unfolding afterPlacing placing-lines refusedPlan numberOf
+  placed-lines (unplaced number) table = refused-lines NoPlan number (zeros (length table)) (λ e. omega arith)
+  placed-lines (placed rows) table =
+      plan-lines (afterPlacing (placed rows) table) refl
+      ∙ ap (λ (rs : List Row). planned (boards ∷ length (jobs works dues) ∷ length rs ∷ preemptions rs (jobs works dues) ∷ []) rs)
+        (rowsOf-numbersOf rows (zeros (length table - 4 * length rows)))
+
+  -- the lines of a day, whatever the table
+  day-lines : List ℕ
+  day-lines =
+      pick (badBoards boards) (refusedLine (numberOf BadBoards) 0)
+      (pick (badLists works dues) (refusedLine (numberOf BadLists) 0)
+      (pick (ltb 0 (firstOut works dues)) (refusedLine (numberOf OutOfRange) (firstOut works dues)) (placing-lines (placing boards works dues))))
+
+  answer-lines : (table : List ℕ) → 8 * length works ≤ length table → lines-of (planAnswer boards works dues table) ≡ day-lines
+  unfolding planAnswer day-lines numberOf
+  answer-lines table h =
+      push (badBoards boards) _ _ _ _ (refused-lines BadBoards 0 table (λ e. omega arith))
+      (push (badLists works dues) _ _ _ _ (refused-lines BadLists 0 table (λ e. omega arith))
+      (ap lines-of (pick-no (ltb (length table) (8 * length works)) _ _ (le-ltb (length table) (8 * length works) h))
+      ∙ push (ltb 0 (firstOut works dues)) _ _ _ _ (refused-lines OutOfRange (firstOut works dues) table (λ e. omega arith)) (placed-lines (placing boards works dues) table)))
+    where
+      push : (b : Bool) (x y : PlanAnswer) (u v : List ℕ) → lines-of x ≡ u → lines-of y ≡ v → lines-of (pick b x y) ≡ pick b u v
+      push true x y u v p q = p
+      push false x y u v p q = q
+
+  pub same-lines : (table : List ℕ) → 8 * length works ≤ length table → lines-of (planAnswer boards works dues table) ≡ planLines boards works dues (planAnswer boards works dues (zeros (8 * length works)))
+
+  same-lines table h = answer-lines table h ∙ sym (answer-lines (zeros (8 * length works)) (omega (arith, length-replicate (8 * length works) 0)))
+
+-- ---- lines do not depend on what the lists held
+
+read-lines : (file : List ℕ) (r : Refusal) (w d : List ℕ) → (numberOf r ≡ 0 → ⊥) → orderLines (refusedRead r 0 w d) ≡ refusedLine (numberOf r) 0
+unfolding orderLines refusedRead
+read-lines file r w d h = pick-no (eqb (numberOf r) 0) _ _ (ne-eqb (numberOf r) 0 h)
+
+outcome-same : (o : Outcome) (w d w′ d′ : List ℕ) → length w ≡ length w′ → length d ≡ length d′ → afterReading o w d ≡ afterReading o w′ d′
+unfolding afterReading
+outcome-same (refused r p) w d w′ d′ e f = ap₂ (λ (x y : ℕ). refusedRead r p (zeros x) (zeros y)) e f
+outcome-same (accepted b ws ds) w d w′ d′ e f = ap₂ (λ (x y : ℕ). record { said = record { refusal = 0; place = 0; boards = b; jobs = length ws }; work = ws ++ zeros (x - length ws); due = ds ++ zeros (y - length ds) }) e f
+
+-- whatever the two lists of 1,000 held, the lines are the listing's
+pub read-same : (file w d : List ℕ) → length w ≡ 1000 → length d ≡ 1000 → orderLines (readAnswer file w d) ≡ listing file
+unfolding readAnswer listing numberOf
+read-same file w d e f =
+    let z = zeros 1000 in
+    let l : length z ≡ 1000 = length-replicate 1000 0 in
+    ap orderLines (not-short w d e f)
+    ∙ long-or (ltb 65536 (length file))
+    ∙ ap orderLines (sym (not-short z z l l))
+  where
+    rest : List ℕ → List ℕ → ReadAnswer
+    rest w d = pick (ltb mostBytes (length file)) (refusedRead LongFile 0 w d) (afterReading (orderOf file) w d)
+
+    not-short : (w d : List ℕ) → length w ≡ 1000 → length d ≡ 1000 → pick (ltb (length w) mostJobs || ltb (length d) mostJobs) (refusedRead ShortBuffer 0 w d) (rest w d) ≡ rest w d
+    not-short w d e f = pick-no (ltb (length w) mostJobs || ltb (length d) mostJobs) (refusedRead ShortBuffer 0 w d) (rest w d) (or-no (ltb (length w) mostJobs) (ltb (length d) mostJobs) (le-ltb (length w) mostJobs (omega arith)) (le-ltb (length d) mostJobs (omega arith)))
+
+    long-or : (b : Bool) → orderLines (pick b (refusedRead LongFile 0 w d) (afterReading (orderOf file) w d)) ≡ orderLines (pick b (refusedRead LongFile 0 (zeros 1000) (zeros 1000)) (afterReading (orderOf file) (zeros 1000) (zeros 1000)))
+    long-or true = read-lines file LongFile w d (λ h. omega arith) ∙ sym (read-lines file LongFile (zeros 1000) (zeros 1000) (λ h. omega arith))
+    long-or false = ap orderLines (outcome-same (orderOf file) w d (zeros 1000) (zeros 1000) (e ∙ sym (length-replicate 1000 0)) (f ∙ sym (length-replicate 1000 0)))
+
+-- the lines of an order that is refused, and of one that was read
+pub order-refused : (a : ReadAnswer) → (a .said .refusal ≡ 0 → ⊥) → orderLines a ≡ refusedLine (a .said .refusal) (a .said .place)
+unfolding orderLines
+order-refused a h = pick-no (eqb (a .said .refusal) 0) _ _ (ne-eqb (a .said .refusal) 0 h)
+
+pub order-read : (a : ReadAnswer) → a .said .refusal ≡ 0 → orderLines a ≡ planLines (a .said .boards) (take (a .said .jobs) (a .work)) (take (a .said .jobs) (a .due)) (planAnswer (a .said .boards) (take (a .said .jobs) (a .work)) (take (a .said .jobs) (a .due)) (zeros (8 * length (take (a .said .jobs) (a .work)))))
+unfolding orderLines
+order-read a h = pick-yes (eqb (a .said .refusal) 0) _ _ (eq-eqb (a .said .refusal) 0 h)
