@@ -1,11 +1,11 @@
 -- The listing in a lent buffer, and the laws that join the calls.
-use mathlib.Core.Path.{_≡_, refl, sym, ap, ap₂, _∙_}
+use mathlib.Core.Path.{_≡_, refl, sym, ap, ap₂, subst, _∙_}
 use mathlib.Core.Bool.{Bool, true, false, _||_}
 use mathlib.Core.List.{List, [], _∷_, _++_}
 use mathlib.Core.Logic.{_⊎_, inl, inr}
 use Prim.Native.Nat.{ℕ, _+_, _*_, _-_, _≤_, _<_}
 use native.Mathlib.Omega.{arith}
-use lib.ListN.{length, take, drop, length-append, length-replicate}
+use lib.ListN.{length, take, drop, length-append, length-drop, length-replicate}
 use lib.Dec.{ltb, eqb}
 use borrow.Author.Tests.{lt-ltb, le-ltb, eq-eqb, ne-eqb}
 use Rattle.rules.specs.Basics.{pick, zeros, mostJobs, mostBytes}
@@ -20,6 +20,8 @@ use Rattle.rules.specs.Planning.{PlanAnswer, planAnswer, refusedPlan, afterPlac
 use Rattle.rules.specs.Listings.{listing, orderLines, planLines, refusedLine, fields, rowLines}
 use Rattle.laws.specs.Stores.{stored}
 use Rattle.laws.specs.Tests.{pick-yes, pick-no, decided, or-no}
+use Rattle.laws.specs.Rows.{length-rowsOf}
+use Rattle.theory.specs.DueOrder.{length-jobs}
 use Rattle.theory.specs.Answers.{rowsOf-numbersOf, length-numbersOf}
 use Rattle.lines.specs.Digits.{Put}
 use Rattle.lines.specs.Fields.{planned}
@@ -100,7 +102,7 @@ module _ (boards : ℕ) (works dues : List ℕ) where
   placed-lines (placed rows) table =
       plan-lines (afterPlacing (placed rows) table) refl
       ∙ ap (λ (rs : List Row). planned (boards ∷ length (jobs works dues) ∷ length rs ∷ preemptions rs (jobs works dues) ∷ []) rs)
-        (rowsOf-numbersOf rows (zeros (length table - 4 * length rows)))
+      (rowsOf-numbersOf rows (zeros (length table - 4 * length rows)))
 
   -- the lines of a day, whatever the table
   day-lines : List ℕ
@@ -122,8 +124,7 @@ module _ (boards : ℕ) (works dues : List ℕ) where
       push false x y u v p q = q
 
   pub same-lines : (table : List ℕ) → 8 * length works ≤ length table → lines-of (planAnswer boards works dues table) ≡ planLines boards works dues (planAnswer boards works dues (zeros (8 * length works)))
-
-  same-lines table h = answer-lines table h ∙ sym (answer-lines (zeros (8 * length works)) (omega (arith, length-replicate (8 * length works) 0)))
+  same-lines table h = answer-lines table h ∙ sym (answer-lines (zeros (8 * length works)) (omega (arith, length-replicate {A = ℕ} (8 * length works) 0)))
 
 -- ---- lines do not depend on what the lists held
 
@@ -141,7 +142,7 @@ pub read-same : (file w d : List ℕ) → length w ≡ 1000 → length d ≡ 100
 unfolding readAnswer listing numberOf
 read-same file w d e f =
     let z = zeros 1000 in
-    let l : length z ≡ 1000 = length-replicate 1000 0 in
+    let l : length z ≡ 1000 = length-replicate {A = ℕ} 1000 0 in
     ap orderLines (not-short w d e f)
     ∙ long-or (ltb 65536 (length file))
     ∙ ap orderLines (sym (not-short z z l l))
@@ -154,7 +155,7 @@ read-same file w d e f =
 
     long-or : (b : Bool) → orderLines (pick b (refusedRead LongFile 0 w d) (afterReading (orderOf file) w d)) ≡ orderLines (pick b (refusedRead LongFile 0 (zeros 1000) (zeros 1000)) (afterReading (orderOf file) (zeros 1000) (zeros 1000)))
     long-or true = read-lines file LongFile w d (λ h. omega arith) ∙ sym (read-lines file LongFile (zeros 1000) (zeros 1000) (λ h. omega arith))
-    long-or false = ap orderLines (outcome-same (orderOf file) w d (zeros 1000) (zeros 1000) (e ∙ sym (length-replicate 1000 0)) (f ∙ sym (length-replicate 1000 0)))
+    long-or false = ap orderLines (outcome-same (orderOf file) w d (zeros 1000) (zeros 1000) (e ∙ sym (length-replicate {A = ℕ} 1000 0)) (f ∙ sym (length-replicate {A = ℕ} 1000 0)))
 
 -- the lines of an order that is refused, and of one that was read
 pub order-refused : (a : ReadAnswer) → (a .said .refusal ≡ 0 → ⊥) → orderLines a ≡ refusedLine (a .said .refusal) (a .said .place)
@@ -164,3 +165,77 @@ order-refused a h = pick-no (eqb (a .said .refusal) 0) _ _ (ne-eqb (a .said .ref
 pub order-read : (a : ReadAnswer) → a .said .refusal ≡ 0 → orderLines a ≡ planLines (a .said .boards) (take (a .said .jobs) (a .work)) (take (a .said .jobs) (a .due)) (planAnswer (a .said .boards) (take (a .said .jobs) (a .work)) (take (a .said .jobs) (a .due)) (zeros (8 * length (take (a .said .jobs) (a .work)))))
 unfolding orderLines
 order-read a h = pick-yes (eqb (a .said .refusal) 0) _ _ (eq-eqb (a .said .refusal) 0 h)
+
+-- ---- what the code has, and the lines that it puts
+
+pub rows-said : (m : ℕ) (works dues table : List ℕ) (said : Planned) (later : List ℕ) → said ≡ planAnswer m works dues table .said → later ≡ planAnswer m works dues table .table → 4 * said .rows ≤ length later
+rows-said m works dues table said later p q = rw (p, q) (rows-within m works dues table)
+
+pub day-refused : (boards : ℕ) (works dues table : List ℕ) (said : Planned) (lines later : List ℕ) (r : ℕ) → 8 * length works ≤ length table → said ≡ planAnswer boards works dues table .said → (said .refusal ≡ 0 → ⊥) → Put lines 0 (refusedLine (said .refusal) (said .place)) later r → Put lines 0 (planLines boards works dues (planAnswer boards works dues (zeros (8 * length works)))) later r
+day-refused boards works dues table said lines later r h e n p =
+    let a = planAnswer boards works dues table in
+    let same : refusedLine (said .refusal) (said .place) ≡ planLines boards works dues (planAnswer boards works dues (zeros (8 * length works))) =
+    ap (λ (x : Planned). refusedLine (x .refusal) (x .place)) e
+    ∙ sym (refusal-lines boards works dues a (λ z. n (ap (λ (x : Planned). x .refusal) e ∙ z)))
+    ∙ same-lines boards works dues table h in
+    subst (λ (v : List ℕ). Put lines 0 v later r) same p
+
+pub day-planned : (boards : ℕ) (works dues table : List ℕ) (said : Planned) (full : List ℕ) (lines later : List ℕ) (r : ℕ) → length works ≡ length dues → 8 * length works ≤ length table → said ≡ planAnswer boards works dues table .said → full ≡ planAnswer boards works dues table .table → said .refusal ≡ 0 → Put lines 0 (planned (boards ∷ length works ∷ said .rows ∷ (said .rows - length works) ∷ []) (rowsOf (said .rows) full)) later r → Put lines 0 (planLines boards works dues (planAnswer boards works dues (zeros (8 * length works)))) later r
+unfolding preemptions
+day-planned boards works dues table said full lines later r eq h e f z p =
+    let rows = rowsOf (said .rows) full in
+    let n : length rows ≡ said .rows = length-rowsOf (said .rows) full in
+    let j : length (jobs works dues) ≡ length works = length-jobs works dues eq in
+    let same : planned (boards ∷ length works ∷ said .rows ∷ (said .rows - length works) ∷ []) rows ≡ planLines boards works dues (planAnswer boards works dues (zeros (8 * length works))) =
+    ap₂ (λ (x y : ℕ). planned (boards ∷ x ∷ y ∷ (y - x) ∷ []) rows) (sym j) (sym n)
+    ∙ ap₂ (λ (x : Planned) (t : List ℕ). planned (boards ∷ length (jobs works dues) ∷ length (rowsOf (x .rows) t) ∷ preemptions (rowsOf (x .rows) t) (jobs works dues) ∷ []) (rowsOf (x .rows) t)) e f
+    ∙ sym (plan-lines boards works dues (planAnswer boards works dues table) (ap (λ (x : Planned). x .refusal) (sym e) ∙ z))
+    ∙ same-lines boards works dues table h in
+    subst (λ (v : List ℕ). Put lines 0 v later r) same p
+
+outcome-within : (o : Outcome) (w d : List ℕ) → afterReading o w d .said .jobs ≤ length (afterReading o w d .work)
+unfolding afterReading refusedRead
+outcome-within (refused r p) w d = omega arith
+outcome-within (accepted b ws ds) w d = omega (arith, length-append ws (zeros (length w - length ws)))
+
+jobs-within : (file w d : List ℕ) → readAnswer file w d .said .jobs ≤ length (readAnswer file w d .work)
+unfolding readAnswer refusedRead
+jobs-within file w d =
+    both Within (ltb (length w) mostJobs || ltb (length d) mostJobs) _ _ (omega arith)
+    (both Within (ltb mostBytes (length file)) _ _ (omega arith) (outcome-within (orderOf file) w d))
+  where
+    Within : ReadAnswer → Type 0
+    Within a = a .said .jobs ≤ length (a .work)
+
+pub jobs-said : (file w d : List ℕ) (said : OrderRead) (work : List ℕ) → said ≡ readAnswer file w d .said → work ≡ readAnswer file w d .work → said .jobs ≤ length work
+jobs-said file w d said work p q = rw (p, q) (jobs-within file w d)
+
+pub listed-refused : (file w d lines later : List ℕ) (said : OrderRead) (r : ℕ) → length w ≡ 1000 → length d ≡ 1000 → room ≤ length lines → said ≡ readAnswer file w d .said → (said .refusal ≡ 0 → ⊥) → Put lines 0 (refusedLine (said .refusal) (said .place)) later r → (r ≡ listedLength file lines) × (later ≡ listedLines file lines)
+listed-refused file w d lines later said r lw ld h e n p =
+    let a = readAnswer file w d in
+    let same : refusedLine (said .refusal) (said .place) ≡ listing file =
+    ap (λ (x : OrderRead). refusedLine (x .refusal) (x .place)) e
+    ∙ sym (order-refused a (λ z. n (ap (λ (x : OrderRead). x .refusal) e ∙ z)))
+    ∙ read-same file w d lw ld in
+    listed file lines later r h (subst (λ (v : List ℕ). Put lines 0 v later r) same p)
+
+abbrev day-of : OrderRead → List ℕ → List ℕ → List ℕ
+day-of said work due =
+    planLines (said .boards) (take (said .jobs) work) (take (said .jobs) due)
+    (planAnswer (said .boards) (take (said .jobs) work) (take (said .jobs) due) (zeros (8 * length (take (said .jobs) work))))
+
+pub listed-read : (file w d lines later : List ℕ) (said : OrderRead) (work due : List ℕ) (r : ℕ) → length w ≡ 1000 → length d ≡ 1000 → room ≤ length lines → said ≡ readAnswer file w d .said → work ≡ readAnswer file w d .work → due ≡ readAnswer file w d .due → said .refusal ≡ 0 → Put lines 0 (day-of said work due) later r → (r ≡ listedLength file lines) × (later ≡ listedLines file lines)
+listed-read file w d lines later said work due r lw ld h e f g z p =
+    let a = readAnswer file w d in
+    let same : day-of said work due ≡ listing file =
+    ap (λ (x : OrderRead). day-of x work due) e
+    ∙ ap₂ (λ (x y : List ℕ). day-of (a .said) x y) f g
+    ∙ sym (order-read a (ap (λ (x : OrderRead). x .refusal) (sym e) ∙ z))
+    ∙ read-same file w d lw ld in
+    listed file lines later r h (subst (λ (v : List ℕ). Put lines 0 v later r) same p)
+
+-- what was put ends within the buffer, since the buffer is as long as it was
+pub put-within : (lines later v : List ℕ) (r : ℕ) → length later ≡ length lines → Put lines 0 v later r → r ≤ length lines
+unfolding stored
+put-within lines later v r e p =
+    omega (arith, p .ends, ap length (p .holds), length-append v (drop (0 + length v) lines), length-drop (0 + length v) lines)

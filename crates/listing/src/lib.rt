@@ -33,7 +33,7 @@ fn moves(rows: u32, jobs: u32) -> u32
 
 // The lines of a day that was read.
 fn list_day(boards: u32, work: &[u32], due: &[u32], lines: &mut [u8]) -> usize
-    requires { ⌜ (length (now work) ≤ 1000) × (room ≤ length (now lines)) ⌝ }
+    requires { ⌜ (length (now work) ≤ 1000) × (length (now work) ≡ length (now due)) × (room ≤ length (now lines)) ⌝ }
     ensures { λ r. ⌜ Put (now (lines .entry)) 0 (planLines boards (now (work .entry)) (now (due .entry)) (planAnswer boards (now (work .entry)) (now (due .entry)) (zeros (8 * length (now (work .entry)))))) (now (lines .exit)) r ⌝ }
 {
     let mut table = table_room();
@@ -53,6 +53,7 @@ fn list_day(boards: u32, work: &[u32], due: &[u32], lines: &mut [u8]) -> usize
 pub fn list(file: &[u8], lines: &mut [u8]) -> usize
     ensures said { λ r. ⌜ r ≡ listedLength (now (file .entry)) (now (lines .entry)) ⌝ }
     ensures later { λ _. ⌜ now (lines .exit) ≡ listedLines (now (file .entry)) (now (lines .entry)) ⌝ }
+    ensures within { λ r. ⌜ r ≤ length (now (lines .entry)) ⌝ }
 {
     if lines.len() < 90000 {
         return 0;

@@ -18,7 +18,7 @@ same-length c = search needs
 
 -- src/lib.rt:30:1
 returns : tie.Need-returns
-returns c = 
+returns c =
     let w = said-right (c .before .before .before .before .before .before .before .args .boards) (now (c .before .before .before .before .before .before .before .args .work)) (now (c .before .before .before .before .before .before .before .args .due)) (now (c .before .before .before .before .before .before .before .args .table)) (c .before .before .plan .result) (c .before .before .plan .last .1 .1 .1 .0) (c .before .before .plan .ensures .0) (c .before .before .plan .ensures .1) in
     (c .before .before .plan .ensures .0, (c .before .before .plan .ensures .1, (w .plan, (w .none, (w .few, (w .busy, w .checked))))))
 

@@ -1,3 +1,6 @@
+use Rattle.listing.specs.Listed.{rows-said, day-refused, day-planned}
+use native.Mathlib.Omega.{arith}
+use denote.Ref.{now}
 use borrow.Author.Needs.{needs}
 use Rattle.listing.proofs.list_day.Statement.{statement}
 use Rattle.listing.proofs.list_day.Tie as tie
@@ -31,7 +34,7 @@ same-length c = search needs
 
 -- src/lib.rt:44:9
 returns : tie.Need-returns
-returns c = ?
+returns c = day-refused (c .before .before .before .before .before .before .before .before .before .before .before .before .args .boards) (now (c .before .before .before .before .before .before .before .before .before .before .before .before .args .work)) (now (c .before .before .before .before .before .before .before .before .before .before .before .before .args .due)) (c .before .before .before .before .before .before .before .before .table-room .result) (c .before .before .before .before .before .before .plan .result) (now (c .before .before .before .before .before .before .before .before .before .before .before .before .args .lines)) (c .before .before .put-refusal .last .0) (c .before .before .put-refusal .result) (omega (arith, c .before .before .before .before .before .before .before .before .table-room .ensures, c .before .before .before .before .before .before .before .before .before .before .before .before .pre)) (c .before .before .before .before .before .before .plan .ensures .0) (c .before .before .before .before .if1 .taken) (c .before .before .put-refusal .ensures)
 
 -- src/lib.rt:46:16
 cast-jobs : tie.Need-cast-jobs
@@ -51,7 +54,7 @@ cast-put-plan c = search needs
 
 -- src/lib.rt:48:5
 put-plan-requires : tie.Need-put-plan-requires
-put-plan-requires c κs = ?
+put-plan-requires c κs = omega (arith, rows-said (c .before .before .before .before .before .before .before .before .before .before .before .args .boards) (now (c .before .before .before .before .before .before .before .before .before .before .before .args .work)) (now (c .before .before .before .before .before .before .before .before .before .before .before .args .due)) (c .before .before .before .before .before .before .before .table-room .result) (c .before .before .before .before .before .plan .result) (c .before .before .before .before .before .plan .last .1 .1 .1 .0) (c .before .before .before .before .before .plan .ensures .0) (c .before .before .before .before .before .plan .ensures .1), c .before .before .before .before .before .plan .kept .1 .1 .1 .0, c .before .before .before .before .before .before .before .table-room .ensures, c .before .before .before .before .before .before .before .before .before .before .before .pre)
 
 -- src/lib.rt:35:1
 same-length-2 : tie.Need-same-length-2
@@ -59,7 +62,7 @@ same-length-2 c = search needs
 
 -- src/lib.rt:35:1
 returns-2 : tie.Need-returns-2
-returns-2 c = ?
+returns-2 c = day-planned (c .before .before .before .before .before .before .before .before .before .before .before .before .before .before .args .boards) (now (c .before .before .before .before .before .before .before .before .before .before .before .before .before .before .args .work)) (now (c .before .before .before .before .before .before .before .before .before .before .before .before .before .before .args .due)) (c .before .before .before .before .before .before .before .before .before .before .table-room .result) (c .before .before .before .before .before .before .before .before .plan .result) (c .before .before .before .before .before .before .before .before .plan .last .1 .1 .1 .0) (now (c .before .before .before .before .before .before .before .before .before .before .before .before .before .before .args .lines)) (c .before .before .put-plan .last .0) (c .before .before .put-plan .result) (c .before .before .before .before .before .before .before .before .before .before .before .before .before .before .pre .1) (omega (arith, c .before .before .before .before .before .before .before .before .before .before .table-room .ensures, c .before .before .before .before .before .before .before .before .before .before .before .before .before .before .pre)) (c .before .before .before .before .before .before .before .before .plan .ensures .0) (c .before .before .before .before .before .before .before .before .plan .ensures .1) (c .before .before .before .before .before .before .if1 .left) (rw (c .before .before .before .before .before .moves .ensures) at (c .before .before .put-plan .ensures))
 
 pub list-day-spec : {M : Type 1} → statement M
 list-day-spec =
