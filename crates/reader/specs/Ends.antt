@@ -2,7 +2,8 @@
 use mathlib.Core.Path.{_≡_, refl, sym, ap, subst, _∙_}
 use mathlib.Core.Bool.{Bool, true, false, _||_}
 use mathlib.Core.List.{List, [], _∷_, _++_}
-use Prim.Native.Nat.{ℕ, _-_, _≤_, _<_}
+use Prim.Native.Nat.{ℕ, _-_, _≤_, _<_, min}
+use native.Mathlib.Decide.{decLe}
 use native.Mathlib.Nat.{sub-zero}
 use native.Mathlib.Omega.{arith}
 use lib.ListN.{length, take}
@@ -59,13 +60,14 @@ after-length (accepted boards works dues) work due work₀ due₀ w d =
     ∙ ap {B = ReadAnswer} (λ (n : ℕ). record { said = record { refusal = 0; place = 0; boards = boards; jobs = length works }; work = works ++ zeros (length work₀ - length works); due = dues ++ zeros (n - length dues) }) d
 
 module _ (file work due : List ℕ) where
-  pub short-work : length work < mostJobs → readAnswer file work due ≡ refusedRead ShortBuffer 0 work due
+  pub short-buffer : min (length work) (length due) < mostJobs → readAnswer file work due ≡ refusedRead ShortBuffer 0 work due
   unfolding readAnswer
-  short-work h = pick-yes _ _ _ (or-left (ltb (length work) mostJobs) (ltb (length due) mostJobs) (lt-ltb (length work) mostJobs h))
-
-  pub short-due : length due < mostJobs → readAnswer file work due ≡ refusedRead ShortBuffer 0 work due
-  unfolding readAnswer
-  short-due h = pick-yes _ _ _ (or-right (ltb (length work) mostJobs) (ltb (length due) mostJobs) (lt-ltb (length due) mostJobs h))
+  short-buffer h =
+      pick-yes (ltb (length work) mostJobs || ltb (length due) mostJobs) _ _
+      (elim (decLe mostJobs (length work)) [
+        | yes w ↦ or-right (ltb (length work) mostJobs) (ltb (length due) mostJobs) (lt-ltb (length due) mostJobs (omega arith))
+        | no w ↦ or-left (ltb (length work) mostJobs) (ltb (length due) mostJobs) (lt-ltb (length work) mostJobs (omega arith))
+      ])
 
   module _ (lw : mostJobs ≤ length work) (ld : mostJobs ≤ length due) where
     long-enough : (ltb (length work) mostJobs || ltb (length due) mostJobs) ≡ false

@@ -12,7 +12,7 @@ use rules::Wanted;
 use rules::Word;
 ghost use mathlib.Core.Path.{_≡_};
 ghost use mathlib.Core.List.{List, _++_};
-ghost use Prim.Native.Nat.{ℕ, _-_, _≤_, _<_};
+ghost use Prim.Native.Nat.{ℕ, _-_, _≤_, _<_, min};
 ghost use lib.ListN.{length, take, drop, getD, set};
 ghost use Rattle.rules.specs.Basics.{pick, zeros, mostJobs, mostLevels, mostBytes};
 ghost use lib.Dec.{eqb, ltb};
@@ -375,6 +375,15 @@ fn answer(ended: Ended, work: &mut [u32], due: &mut [u32]) -> OrderRead
     }
 }
 
+fn smaller(a: usize, b: usize) -> usize
+    ensures { λ r. ⌜ r ≡ min a b ⌝ }
+{
+    if a < b {
+        return a;
+    }
+    b
+}
+
 // 01: 10 and 11 touch nothing.
 fn untouched(refusal: Refusal) -> OrderRead
     ensures { λ r. ⌜ ((work due : List ℕ) → r ≡ refusedRead refusal 0 work due .said) ⌝ }
@@ -393,10 +402,8 @@ pub fn read_order(file: &[u8], work: &mut [u32], due: &mut [u32]) -> OrderRead
     ensures works { λ _. ⌜ now (work .exit) ≡ readAnswer (now (file .entry)) (now (work .entry)) (now (due .entry)) .work ⌝ }
     ensures dues { λ _. ⌜ now (due .exit) ≡ readAnswer (now (file .entry)) (now (work .entry)) (now (due .entry)) .due ⌝ }
 {
-    if work.len() < 1000 {
-        return untouched(Refusal::ShortBuffer);
-    }
-    if due.len() < 1000 {
+    let room = smaller(work.len(), due.len());
+    if room < 1000 {
         return untouched(Refusal::ShortBuffer);
     }
     if 65536 < file.len() {
