@@ -1,5 +1,5 @@
 -- The tests come in the definition's order; behind them the outcome of the reading is the answer, and of the buffers only the lengths count.
-use Rattle.reader.specs.Ends.{short-buffer, long-file, finished-fits, read-answers, refusal-answers, three}
+use Rattle.grammar.specs.Ends.{short-buffer, long-file, finished-fits, read-answers, refusal-answers, three}
 use Rattle.rules.specs.declared.Refusal.the-variants.{ShortBuffer, LongFile}
 use native.Mathlib.Omega.{arith}
 use borrow.Author.Needs.{needs}

@@ -1,6 +1,6 @@
 -- The invariant: state and lists hold a reading from which the tokens from the place on give the file's outcome. A turn that goes on\nsaw a token that is not the last, so the place moves forward, and the bytes left are the measure.
-use Rattle.reader.specs.Steps.{stands-start, stands-bounded, stands-stop, stands-done, stands-on, moves-on}
-use Rattle.reader.specs.Turns.{Stands}
+use Rattle.grammar.specs.Steps.{stands-start, stands-bounded, stands-stop, stands-done, stands-on, moves-on}
+use Rattle.grammar.specs.Turns.{Stands}
 use lib.ListN.{length}
 use Prim.Native.Nat.{_≤_, _<_, _-_}
 use mathlib.Core.Path.{_≡_, refl, sym, ap, _∙_}
