@@ -30,12 +30,12 @@ use Rattle.grammar.specs.declared.Ended.the-variants.{Refused, Accepted}
 use Rattle.grammar.specs.Turns.{acted, meant, Held, Holds, deepest, fullest, half, Sound, Decides, Acts, Bounded, Finished, Stands}
 
 -- ---- a fact of a step, from the same fact of the steps that it chooses from
-pick-all : {A : Type 0} (P : A → Type 0) (b : Bool) (x y : A) → (b ≡ true → P x) → (b ≡ false → P y) → P (pick b x y)
+pub pick-all : {A : Type 0} (P : A → Type 0) (b : Bool) (x y : A) → (b ≡ true → P x) → (b ≡ false → P y) → P (pick b x y)
 pick-all P true x y yes′ no′ = yes′ refl
 pick-all P false x y yes′ no′ = no′ refl
 
 module _ (P : Step → Type 0) (p : ℕ) (stops : (q : Refusal) → P (stop q p)) where
-  bracket-all : (t : Token) (a b : Step) → P a → P b → P (bracket t p a b)
+  pub bracket-all : (t : Token) (a b : Step) → P a → P b → P (bracket t p a b)
   unfolding bracket
   bracket-all Open a b x y = x
   bracket-all Close a b x y = y
@@ -51,7 +51,7 @@ module _ (P : Step → Type 0) (p : ℕ) (stops : (q : Refusal) → P (stop q p)
   atomWord-all (Number n) a b c x y z = stops _
   atomWord-all Other a b c x y z = stops _
 
-  word-all : (t : Token) (a b c : Step) → P a → P b → P c → P (word t p a b c)
+  pub word-all : (t : Token) (a b c : Step) → P a → P b → P c → P (word t p a b c)
   unfolding word
   word-all Open a b c x y z = stops _
   word-all Close a b c x y z = stops _
@@ -67,7 +67,7 @@ module _ (P : Step → Type 0) (p : ℕ) (stops : (q : Refusal) → P (stop q p)
   atomNumber-all limit (Number n) f x = pick-all P (leb n limit) (f n) (stop AboveLimit p) (λ e. x n) (λ e. stops _)
   atomNumber-all limit Other f x = stops _
 
-  number-all : (limit : ℕ) (t : Token) (f : ℕ → Step) → ((n : ℕ) → P (f n)) → P (number limit t p f)
+  pub number-all : (limit : ℕ) (t : Token) (f : ℕ → Step) → ((n : ℕ) → P (f n)) → P (number limit t p f)
   unfolding number
   number-all limit Open f x = stops _
   number-all limit Close f x = stops _
@@ -75,7 +75,7 @@ module _ (P : Step → Type 0) (p : ℕ) (stops : (q : Refusal) → P (stop q p)
   number-all limit End f x = stops _
   number-all limit Foreign f x = stops _
 
-  ending-all : (t : Token) (a : Step) → P a → P (ending t p a)
+  pub ending-all : (t : Token) (a : Step) → P a → P (ending t p a)
   unfolding ending
   ending-all Open a x = stops _
   ending-all Close a x = stops _
@@ -302,7 +302,7 @@ module _ (file : List ℕ) (at : ℕ) (s : State) (work due least : List ℕ) (c
         )
 
     module _ (act : Act) (g : turn ≡ Go act) where
-      goes : stepAt (c .reading .wanted) (c .reading) (seen .token) (seen .place) ≡ go (acted (c .reading) act)
+      pub goes : stepAt (c .reading .wanted) (c .reading) (seen .token) (seen .place) ≡ go (acted (c .reading) act)
       unfolding meant
       goes = step-is ∙ ap (meant (c .reading)) g
 
