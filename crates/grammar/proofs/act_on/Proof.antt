@@ -24,7 +24,9 @@ leave-requires : tie.Need-leave-requires
 leave-requires c κs = search needs
 
 returns : tie.Need-returns
-returns c = λ r s w d l h. subst (λ (a : Act). Holds (acted r a) (record { wanted = c .before .act .given .0 .0; boards = c .before .before .before .before .before .before .args .state .boards; level = c .before .before .before .before .before .before .args .state .level; jobs = c .before .before .before .before .before .before .args .state .jobs }) (c .before .before .before .before .before .before .args .work .now) (c .before .before .before .before .before .before .args .due .now) (c .before .before .before .before .before .before .args .least .now)) (sym (c .before .act .given .1)) (holds-want r (c .before .before .before .before .before .before .args .state) (c .before .before .before .before .before .before .args .work .now) (c .before .before .before .before .before .before .args .due .now) (c .before .before .before .before .before .before .args .least .now) h (c .before .act .given .0 .0))
+returns c =
+    let c6 = c .before .before .before .before .before .before in
+    λ r s w d l h. subst (λ (a : Act). Holds (acted r a) (record { wanted = c .before .act .given .0 .0; boards = c6 .args .state .boards; level = c6 .args .state .level; jobs = c6 .args .state .jobs }) (c6 .args .work .now) (c6 .args .due .now) (c6 .args .least .now)) (sym (c .before .act .given .1)) (holds-want r (c6 .args .state) (c6 .args .work .now) (c6 .args .due .now) (c6 .args .least .now) h (c .before .act .given .0 .0))
 
 same-length : tie.Need-same-length
 same-length c = search needs
@@ -36,11 +38,16 @@ same-length-3 : tie.Need-same-length-3
 same-length-3 c = search needs
 
 returns-2 : tie.Need-returns-2
-returns-2 c = λ r s w d l h. subst (λ (a : Act). Holds (acted r a) (c .before .before .before .before .before .before .take-number .result) (c .before .before .before .before .before .before .take-number .last .1 .1 .0) (c .before .before .before .before .before .before .take-number .last .1 .1 .1 .0) (c .before .before .before .before .before .before .take-number .last .1 .1 .1 .1 .0)) (sym (c .before .before .before .before .before .before .before .before .before .before .before .act2 .given .1)) (c .before .before .before .before .before .before .take-number .ensures r s w d l h)
+returns-2 c =
+    let c6 = c .before .before .before .before .before .before in
+    let c11 = c6 .before .before .before .before .before in
+    λ r s w d l h. subst (λ (a : Act). Holds (acted r a) (c6 .take-number .result) (c6 .take-number .last .1 .1 .0) (c6 .take-number .last .1 .1 .1 .0) (c6 .take-number .last .1 .1 .1 .1 .0)) (sym (c11 .act2 .given .1)) (c6 .take-number .ensures r s w d l h)
 
 returns-3 : tie.Need-returns-3
 unfolding acted
-returns-3 c = λ r s w d l h. subst (λ (a : Act). Holds (acted r a) (c .leave .result) (c .before .before .before .before .before .before .args .work .now) (c .before .before .before .before .before .before .args .due .now) (c .before .before .before .before .before .before .args .least .now)) (sym (c .before .enum-told .given .1)) (c .leave .ensures r (c .before .before .before .before .before .before .args .work .now) (c .before .before .before .before .before .before .args .due .now) (c .before .before .before .before .before .before .args .least .now) h)
+returns-3 c =
+    let c6 = c .before .before .before .before .before .before in
+    λ r s w d l h. subst (λ (a : Act). Holds (acted r a) (c .leave .result) (c6 .args .work .now) (c6 .args .due .now) (c6 .args .least .now)) (sym (c .before .enum-told .given .1)) (c .leave .ensures r (c6 .args .work .now) (c6 .args .due .now) (c6 .args .least .now) h)
 
 pub act-on-spec : {M : Type 1} → statement M
 act-on-spec =

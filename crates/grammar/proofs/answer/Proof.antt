@@ -21,7 +21,10 @@ number-requires : tie.Need-number-requires
 number-requires c κs = search needs
 
 cast-t15 : tie.Need-cast-t15
-cast-t15 c = omega (arith, subst (λ (e : Ended). Writable e (c .before .before .before .before .before .before .before .before .before .before .before .before .before .before .args .work .now) (c .before .before .before .before .before .before .before .before .before .before .before .before .before .before .args .due .now)) (c .before .before .before .before .before .before .before .before .before .before .ended .given .1) (c .before .before .before .before .before .before .before .before .before .before .before .before .before .before .pre))
+cast-t15 c =
+    let c10 = c .before .before .before .before .before .before .before .before .before .before in
+    let c14 = c10 .before .before .before .before in
+    omega (arith, subst (λ (e : Ended). Writable e (c14 .args .work .now) (c14 .args .due .now)) (c10 .ended .given .1) (c14 .pre))
 
 enum-known-ended-2 : tie.Need-enum-known-ended-2
 enum-known-ended-2 c = search needs
@@ -33,7 +36,10 @@ clear-requires-4 : tie.Need-clear-requires-4
 clear-requires-4 c κs = search needs
 
 cast-t21 : tie.Need-cast-t21
-cast-t21 c = omega (arith, subst (λ (e : Ended). Writable e (c .before .before .before .before .before .before .before .before .before .before .before .before .before .args .work .now) (c .before .before .before .before .before .before .before .before .before .before .before .before .before .args .due .now)) (c .before .before .before .before .before .before .before .before .before .ended2 .given .1) (c .before .before .before .before .before .before .before .before .before .before .before .before .before .pre) .0)
+cast-t21 c =
+    let c9 = c .before .before .before .before .before .before .before .before .before in
+    let c13 = c9 .before .before .before .before in
+    omega (arith, subst (λ (e : Ended). Writable e (c13 .args .work .now) (c13 .args .due .now)) (c9 .ended2 .given .1) (c13 .pre) .0)
 
 same-length : tie.Need-same-length
 same-length c = search needs
@@ -42,7 +48,12 @@ same-length-2 : tie.Need-same-length-2
 same-length-2 c = search needs
 
 returns : tie.Need-returns
-returns c = answers-refused (c .before .before .before .before .before .before .before .before .before .before .before .before .before .before .args .ended) (c .before .before .before .before .before .before .before .before .before .before .before .before .before .before .args .work .now) (c .before .before .before .before .before .before .before .before .before .before .before .before .before .before .args .due .now) (c .before .before .before .before .before .before .before .clear .last .0) (c .before .before .before .clear2 .last .0) (c .before .before .before .before .before .before .before .before .before .before .ended .given .0 .0) (c .before .before .before .before .before .before .before .before .before .before .ended .given .0 .1 .0) (c .number .result) (c .before .before .before .before .before .before .before .before .before .before .ended .given .1) (c .number .ensures) (c .before .before .before .before .before .before .before .clear .ensures) (c .before .before .before .clear2 .ensures)
+returns c =
+    let c3 = c .before .before .before in
+    let c7 = c3 .before .before .before .before in
+    let c10 = c7 .before .before .before in
+    let c14 = c10 .before .before .before .before in
+    answers-refused (c14 .args .ended) (c14 .args .work .now) (c14 .args .due .now) (c7 .clear .last .0) (c3 .clear2 .last .0) (c10 .ended .given .0 .0) (c10 .ended .given .0 .1 .0) (c .number .result) (c10 .ended .given .1) (c .number .ensures) (c7 .clear .ensures) (c3 .clear2 .ensures)
 
 same-length-3 : tie.Need-same-length-3
 same-length-3 c = search needs
@@ -52,8 +63,11 @@ same-length-4 c = search needs
 
 returns-2 : tie.Need-returns-2
 returns-2 c =
-    let q = subst (λ (e : Ended). Writable e (c .before .before .before .before .before .before .before .before .before .before .before .before .before .args .work .now) (c .before .before .before .before .before .before .before .before .before .before .before .before .before .args .due .now)) (c .before .before .before .before .before .before .before .before .before .ended2 .given .1) (c .before .before .before .before .before .before .before .before .before .before .before .before .before .pre) in
-    answers-accepted (c .before .before .before .before .before .before .before .before .before .before .before .before .before .args .ended) (c .before .before .before .before .before .before .before .before .before .before .before .before .before .args .work .now) (c .before .before .before .before .before .before .before .before .before .before .before .before .before .args .due .now) (c .before .before .before .before .before .before .clear3 .last .0) (c .before .before .clear4 .last .0) (c .before .before .before .before .before .before .before .before .before .ended2 .given .0 .0) (c .before .before .before .before .before .before .before .before .before .ended2 .given .0 .1 .0) (c .before .before .before .before .before .before .before .before .before .ended2 .given .1) (omega (arith, q)) (omega (arith, q)) (c .before .before .before .before .before .before .clear3 .ensures) (c .before .before .clear4 .ensures)
+    let c6 = c .before .before .before .before .before .before in
+    let c9 = c6 .before .before .before in
+    let c13 = c9 .before .before .before .before in
+    let q = subst (λ (e : Ended). Writable e (c13 .args .work .now) (c13 .args .due .now)) (c9 .ended2 .given .1) (c13 .pre) in
+    answers-accepted (c13 .args .ended) (c13 .args .work .now) (c13 .args .due .now) (c6 .clear3 .last .0) (c .before .before .clear4 .last .0) (c9 .ended2 .given .0 .0) (c9 .ended2 .given .0 .1 .0) (c9 .ended2 .given .1) (omega (arith, q)) (omega (arith, q)) (c6 .clear3 .ensures) (c .before .before .clear4 .ensures)
 
 pub answer-spec : {M : Type 1} → statement M
 answer-spec =

@@ -89,58 +89,73 @@ end-wanted-requires c κs = search needs
 
 returns : tie.Need-returns
 unfolding stepAt meant acted want taken half
-returns c = λ r s w l j. ap (λ (v : Wanted). stepAt v r (c .before .before .before .args .token) (c .before .before .before .args .place)) (w ∙ c .before .enum-told .given .1) ∙ sym (c .bracket-wanted .ensures r)
+returns c =
+    let c3 = c .before .before .before in
+    λ r s w l j. ap (λ (v : Wanted). stepAt v r (c3 .args .token) (c3 .args .place)) (w ∙ c .before .enum-told .given .1) ∙ sym (c .bracket-wanted .ensures r)
 
 returns-2 : tie.Need-returns-2
 unfolding stepAt meant acted want taken half
-returns-2 c = λ r s w l j. ap (λ (v : Wanted). stepAt v r (c .before .before .before .args .token) (c .before .before .before .args .place)) (w ∙ c .before .enum-told2 .given .1) ∙ sym (c .word-wanted .ensures r)
+returns-2 c =
+    let c3 = c .before .before .before in
+    λ r s w l j. ap (λ (v : Wanted). stepAt v r (c3 .args .token) (c3 .args .place)) (w ∙ c .before .enum-told2 .given .1) ∙ sym (c .word-wanted .ensures r)
 
 returns-3 : tie.Need-returns-3
 unfolding stepAt meant acted want taken half
 returns-3 c =
-    λ r s w l j. ap (λ (v : Wanted). stepAt v r (c .before .before .before .args .token) (c .before .before .before .args .place)) (w ∙ c .before .enum-told3 .given .1) ∙ ap (λ (v : Wanted). number mostBoards (c .before .before .before .args .token) (c .before .before .before .args .place) (λ n. go (taken v r n))) (sym (w ∙ c .before .enum-told3 .given .1)) ∙ sym (c .number-wanted .ensures r)
+    let c3 = c .before .before .before in
+    λ r s w l j. ap (λ (v : Wanted). stepAt v r (c3 .args .token) (c3 .args .place)) (w ∙ c .before .enum-told3 .given .1) ∙ ap (λ (v : Wanted). number mostBoards (c3 .args .token) (c3 .args .place) (λ n. go (taken v r n))) (sym (w ∙ c .before .enum-told3 .given .1)) ∙ sym (c .number-wanted .ensures r)
 
 returns-4 : tie.Need-returns-4
 unfolding stepAt meant acted want taken half
-returns-4 c = λ r s w l j. ap (λ (v : Wanted). stepAt v r (c .before .before .before .args .token) (c .before .before .before .args .place)) (w ∙ c .before .enum-told4 .given .1) ∙ ap (λ (x : Step). bracket (c .before .before .before .args .token) (c .before .before .before .args .place) (want r ItemWord) x) (leave-left r (r .groups)) ∙ sym (c .bracket-wanted2 .ensures r)
+returns-4 c =
+    let c3 = c .before .before .before in
+    λ r s w l j. ap (λ (v : Wanted). stepAt v r (c3 .args .token) (c3 .args .place)) (w ∙ c .before .enum-told4 .given .1) ∙ ap (λ (x : Step). bracket (c3 .args .token) (c3 .args .place) (want r ItemWord) x) (leave-left r (r .groups)) ∙ sym (c .bracket-wanted2 .ensures r)
 
 returns-5 : tie.Need-returns-5
 unfolding stepAt meant acted want taken half
 returns-5 c =
+    let c3 = c .before .before .before in
+    let c5 = c3 .before .before in
     λ r s w l j.
-    ap (λ (v : Wanted). stepAt v r (c .before .before .before .before .before .args .token) (c .before .before .before .before .before .args .place)) (w ∙ c .before .before .before .enum-told5 .given .1)
-    ∙ ap (λ (n : ℕ). word (c .before .before .before .before .before .args .token) (c .before .before .before .before .before .args .place) (stop NotAllowed (c .before .before .before .before .before .args .place)) (pick (ltb n mostLevels) (want r GroupDue) (stop TooDeep (c .before .before .before .before .before .args .place))) (pick (ltb (length (r .works)) mostJobs) (want r JobWork) (stop TooManyJobs (c .before .before .before .before .before .args .place)))) l
-    ∙ ap (λ (x : Step). word (c .before .before .before .before .before .args .token) (c .before .before .before .before .before .args .place) (stop NotAllowed (c .before .before .before .before .before .args .place)) x (pick (ltb (length (r .works)) mostJobs) (want r JobWork) (stop TooManyJobs (c .before .before .before .before .before .args .place)))) (sym (c .before .before .group-begins .ensures r))
-    ∙ ap (λ (n : ℕ). word (c .before .before .before .before .before .args .token) (c .before .before .before .before .before .args .place) (stop NotAllowed (c .before .before .before .before .before .args .place)) (meant r (c .before .before .group-begins .result)) (pick (ltb n mostJobs) (want r JobWork) (stop TooManyJobs (c .before .before .before .before .before .args .place)))) (whole-jobs r ItemWord (c .before .before .before .before .before .args .state .jobs) s (w ∙ c .before .before .before .enum-told5 .given .1) refl j)
-    ∙ ap (λ (x : Step). word (c .before .before .before .before .before .args .token) (c .before .before .before .before .before .args .place) (stop NotAllowed (c .before .before .before .before .before .args .place)) (meant r (c .before .before .group-begins .result)) x) (sym (c .before .job-begins .ensures r))
+    ap (λ (v : Wanted). stepAt v r (c5 .args .token) (c5 .args .place)) (w ∙ c3 .enum-told5 .given .1)
+    ∙ ap (λ (n : ℕ). word (c5 .args .token) (c5 .args .place) (stop NotAllowed (c5 .args .place)) (pick (ltb n mostLevels) (want r GroupDue) (stop TooDeep (c5 .args .place))) (pick (ltb (length (r .works)) mostJobs) (want r JobWork) (stop TooManyJobs (c5 .args .place)))) l
+    ∙ ap (λ (x : Step). word (c5 .args .token) (c5 .args .place) (stop NotAllowed (c5 .args .place)) x (pick (ltb (length (r .works)) mostJobs) (want r JobWork) (stop TooManyJobs (c5 .args .place)))) (sym (c .before .before .group-begins .ensures r))
+    ∙ ap (λ (n : ℕ). word (c5 .args .token) (c5 .args .place) (stop NotAllowed (c5 .args .place)) (meant r (c .before .before .group-begins .result)) (pick (ltb n mostJobs) (want r JobWork) (stop TooManyJobs (c5 .args .place)))) (whole-jobs r ItemWord (c5 .args .state .jobs) s (w ∙ c3 .enum-told5 .given .1) refl j)
+    ∙ ap (λ (x : Step). word (c5 .args .token) (c5 .args .place) (stop NotAllowed (c5 .args .place)) (meant r (c .before .before .group-begins .result)) x) (sym (c .before .job-begins .ensures r))
     ∙ sym (c .word-wanted2 .ensures r)
 
 returns-6 : tie.Need-returns-6
 unfolding stepAt meant acted want taken half
 returns-6 c =
-    λ r s w l j. ap (λ (v : Wanted). stepAt v r (c .before .before .before .args .token) (c .before .before .before .args .place)) (w ∙ c .before .enum-told6 .given .1) ∙ ap (λ (v : Wanted). number mostMinutes (c .before .before .before .args .token) (c .before .before .before .args .place) (λ n. go (taken v r n))) (sym (w ∙ c .before .enum-told6 .given .1)) ∙ sym (c .number-wanted2 .ensures r)
+    let c3 = c .before .before .before in
+    λ r s w l j. ap (λ (v : Wanted). stepAt v r (c3 .args .token) (c3 .args .place)) (w ∙ c .before .enum-told6 .given .1) ∙ ap (λ (v : Wanted). number mostMinutes (c3 .args .token) (c3 .args .place) (λ n. go (taken v r n))) (sym (w ∙ c .before .enum-told6 .given .1)) ∙ sym (c .number-wanted2 .ensures r)
 
 returns-7 : tie.Need-returns-7
 unfolding stepAt meant acted want taken half
 returns-7 c =
-    λ r s w l j. ap (λ (v : Wanted). stepAt v r (c .before .before .before .args .token) (c .before .before .before .args .place)) (w ∙ c .before .enum-told7 .given .1) ∙ ap (λ (v : Wanted). number mostMinutes (c .before .before .before .args .token) (c .before .before .before .args .place) (λ n. go (taken v r n))) (sym (w ∙ c .before .enum-told7 .given .1)) ∙ sym (c .number-wanted3 .ensures r)
+    let c3 = c .before .before .before in
+    λ r s w l j. ap (λ (v : Wanted). stepAt v r (c3 .args .token) (c3 .args .place)) (w ∙ c .before .enum-told7 .given .1) ∙ ap (λ (v : Wanted). number mostMinutes (c3 .args .token) (c3 .args .place) (λ n. go (taken v r n))) (sym (w ∙ c .before .enum-told7 .given .1)) ∙ sym (c .number-wanted3 .ensures r)
 
 returns-8 : tie.Need-returns-8
 unfolding stepAt meant acted want taken half
 returns-8 c =
-    λ r s w l j. ap (λ (v : Wanted). stepAt v r (c .before .before .before .args .token) (c .before .before .before .args .place)) (w ∙ c .before .enum-told8 .given .1) ∙ ap (λ (v : Wanted). number mostMinutes (c .before .before .before .args .token) (c .before .before .before .args .place) (λ n. go (taken v r n))) (sym (w ∙ c .before .enum-told8 .given .1)) ∙ sym (c .number-wanted4 .ensures r)
+    let c3 = c .before .before .before in
+    λ r s w l j. ap (λ (v : Wanted). stepAt v r (c3 .args .token) (c3 .args .place)) (w ∙ c .before .enum-told8 .given .1) ∙ ap (λ (v : Wanted). number mostMinutes (c3 .args .token) (c3 .args .place) (λ n. go (taken v r n))) (sym (w ∙ c .before .enum-told8 .given .1)) ∙ sym (c .number-wanted4 .ensures r)
 
 returns-9 : tie.Need-returns-9
 unfolding stepAt meant acted want taken half
-returns-9 c = λ r s w l j. ap (λ (v : Wanted). stepAt v r (c .before .before .before .args .token) (c .before .before .before .args .place)) (w ∙ c .before .enum-told9 .given .1) ∙ sym (c .bracket-wanted3 .ensures r)
+returns-9 c =
+    let c3 = c .before .before .before in
+    λ r s w l j. ap (λ (v : Wanted). stepAt v r (c3 .args .token) (c3 .args .place)) (w ∙ c .before .enum-told9 .given .1) ∙ sym (c .bracket-wanted3 .ensures r)
 
 returns-10 : tie.Need-returns-10
 unfolding stepAt meant acted want taken half
 returns-10 c =
+    let c4 = c .before .before .before .before in
     λ r s w l j.
-    ap (λ (v : Wanted). stepAt v r (c .before .before .before .before .args .token) (c .before .before .before .before .args .place)) (w ∙ c .before .before .enum-told10 .given .1)
-    ∙ ap (λ (x : Bool). ending (c .before .before .before .before .args .token) (c .before .before .before .before .args .place) (pick x (stop NoJob (c .before .before .before .before .args .place)) done)) (empty-is (r .works) (c .before .before .before .before .args .state .jobs) (whole-jobs r Finish (c .before .before .before .before .args .state .jobs) s (w ∙ c .before .before .enum-told10 .given .1) refl j))
-    ∙ ap (λ (x : Step). ending (c .before .before .before .before .args .token) (c .before .before .before .before .args .place) x) (sym (c .before .order-ends .ensures r))
+    ap (λ (v : Wanted). stepAt v r (c4 .args .token) (c4 .args .place)) (w ∙ c .before .before .enum-told10 .given .1)
+    ∙ ap (λ (x : Bool). ending (c4 .args .token) (c4 .args .place) (pick x (stop NoJob (c4 .args .place)) done)) (empty-is (r .works) (c4 .args .state .jobs) (whole-jobs r Finish (c4 .args .state .jobs) s (w ∙ c .before .before .enum-told10 .given .1) refl j))
+    ∙ ap (λ (x : Step). ending (c4 .args .token) (c4 .args .place) x) (sym (c .before .order-ends .ensures r))
     ∙ sym (c .end-wanted .ensures r)
 
 pub decide-spec : {M : Type 1} → statement M

@@ -15,10 +15,14 @@ get-requires : tie.Need-get-requires
 get-requires c κs = search needs
 
 returns-2 : tie.Need-returns-2
-returns-2 c = least-own (c .before .before .before .before .args .due) (c .before .before .before .before .args .level) (c .before .get .result) (c .before .before .before .before .args .least .now) (c .before .before .if1 .left) (c .before .get .ensures) (c .if2 .taken)
+returns-2 c =
+    let c4 = c .before .before .before .before in
+    least-own (c4 .args .due) (c4 .args .level) (c .before .get .result) (c4 .args .least .now) (c .before .before .if1 .left) (c .before .get .ensures) (c .if2 .taken)
 
 returns-3 : tie.Need-returns-3
-returns-3 c = least-round (c .before .before .before .before .args .due) (c .before .before .before .before .args .level) (c .before .get .result) (c .before .before .before .before .args .least .now) (c .before .before .if1 .left) (c .before .get .ensures) (c .if2 .left)
+returns-3 c =
+    let c4 = c .before .before .before .before in
+    least-round (c4 .args .due) (c4 .args .level) (c .before .get .result) (c4 .args .least .now) (c .before .before .if1 .left) (c .before .get .ensures) (c .if2 .left)
 
 pub least-due-spec : {M : Type 1} → statement M
 least-due-spec = tie.close (tie.spec returns sub-get get-requires returns-2 returns-3)

@@ -26,15 +26,23 @@ enum-known-name c = search needs
 
 returns-2 : tie.Need-returns-2
 unfolding meant
-returns-2 c = λ r. sym (number-none (c .before .before .before .before .args .limit) (c .before .before .before .before .args .token) _ (c .before .before .before .before .args .place) _ (c .before .before .token .given .1) (no-numeral _ (c .match2 .keys2)))
+returns-2 c =
+    let c4 = c .before .before .before .before in
+    λ r. sym (number-none (c4 .args .limit) (c4 .args .token) _ (c4 .args .place) _ (c .before .before .token .given .1) (no-numeral _ (c .match2 .keys2)))
 
 returns-3 : tie.Need-returns-3
 unfolding meant
-returns-3 c = λ r. sym (number-atom (c .before .before .before .before .before .before .before .args .limit) (c .before .before .before .before .before .before .before .args .token) _ _ (c .before .before .before .before .before .before .before .args .place) _ (c .before .before .before .before .before .token .given .1) (c .before .before .name .given .1) ∙ pick-no _ _ _ (lt-leb _ _ (c .if1 .taken)))
+returns-3 c =
+    let c5 = c .before .before .before .before .before in
+    let c7 = c5 .before .before in
+    λ r. sym (number-atom (c7 .args .limit) (c7 .args .token) _ _ (c7 .args .place) _ (c5 .token .given .1) (c .before .before .name .given .1) ∙ pick-no _ _ _ (lt-leb _ _ (c .if1 .taken)))
 
 returns-4 : tie.Need-returns-4
 unfolding meant
-returns-4 c = λ r. sym (number-atom (c .before .before .before .before .before .before .before .args .limit) (c .before .before .before .before .before .before .before .args .token) _ _ (c .before .before .before .before .before .before .before .args .place) _ (c .before .before .before .before .before .token .given .1) (c .before .before .name .given .1) ∙ pick-yes _ _ _ (le-leb _ _ (c .if1 .left)))
+returns-4 c =
+    let c5 = c .before .before .before .before .before in
+    let c7 = c5 .before .before in
+    λ r. sym (number-atom (c7 .args .limit) (c7 .args .token) _ _ (c7 .args .place) _ (c5 .token .given .1) (c .before .before .name .given .1) ∙ pick-yes _ _ _ (le-leb _ _ (c .if1 .left)))
 
 pub number-wanted-spec : {M : Type 1} → statement M
 number-wanted-spec =

@@ -39,23 +39,38 @@ enum-told-5 c = search needs
 
 returns-2 : tie.Need-returns-2
 unfolding word atomWord meant
-returns-2 c = λ r. sym (ap (λ (t : Token). word t (c .before .before .before .before .before .args .place) (meant r (c .before .before .before .before .before .args .order)) (meant r (c .before .before .before .before .before .args .group)) (meant r (c .before .before .before .before .before .args .job))) (c .before .before .before .token .given .1 ∙ ap Atom (c .enum-told .given .1)))
+returns-2 c =
+    let c3 = c .before .before .before in
+    let c5 = c3 .before .before in
+    λ r. sym (ap (λ (t : Token). word t (c5 .args .place) (meant r (c5 .args .order)) (meant r (c5 .args .group)) (meant r (c5 .args .job))) (c3 .token .given .1 ∙ ap Atom (c .enum-told .given .1)))
 
 returns-3 : tie.Need-returns-3
 unfolding word atomWord meant
-returns-3 c = λ r. sym (ap (λ (t : Token). word t (c .before .before .before .before .before .args .place) (meant r (c .before .before .before .before .before .args .order)) (meant r (c .before .before .before .before .before .args .group)) (meant r (c .before .before .before .before .before .args .job))) (c .before .before .before .token .given .1 ∙ ap Atom (c .enum-told2 .given .1)))
+returns-3 c =
+    let c3 = c .before .before .before in
+    let c5 = c3 .before .before in
+    λ r. sym (ap (λ (t : Token). word t (c5 .args .place) (meant r (c5 .args .order)) (meant r (c5 .args .group)) (meant r (c5 .args .job))) (c3 .token .given .1 ∙ ap Atom (c .enum-told2 .given .1)))
 
 returns-4 : tie.Need-returns-4
 unfolding word atomWord meant
-returns-4 c = λ r. sym (ap (λ (t : Token). word t (c .before .before .before .before .before .args .place) (meant r (c .before .before .before .before .before .args .order)) (meant r (c .before .before .before .before .before .args .group)) (meant r (c .before .before .before .before .before .args .job))) (c .before .before .before .token .given .1 ∙ ap Atom (c .enum-told3 .given .1)))
+returns-4 c =
+    let c3 = c .before .before .before in
+    let c5 = c3 .before .before in
+    λ r. sym (ap (λ (t : Token). word t (c5 .args .place) (meant r (c5 .args .order)) (meant r (c5 .args .group)) (meant r (c5 .args .job))) (c3 .token .given .1 ∙ ap Atom (c .enum-told3 .given .1)))
 
 returns-5 : tie.Need-returns-5
 unfolding word atomWord meant
-returns-5 c = λ r. sym (ap (λ (t : Token). word t (c .before .before .before .before .before .args .place) (meant r (c .before .before .before .before .before .args .order)) (meant r (c .before .before .before .before .before .args .group)) (meant r (c .before .before .before .before .before .args .job))) (c .before .before .before .token .given .1 ∙ ap Atom (c .enum-told4 .given .1)))
+returns-5 c =
+    let c3 = c .before .before .before in
+    let c5 = c3 .before .before in
+    λ r. sym (ap (λ (t : Token). word t (c5 .args .place) (meant r (c5 .args .order)) (meant r (c5 .args .group)) (meant r (c5 .args .job))) (c3 .token .given .1 ∙ ap Atom (c .enum-told4 .given .1)))
 
 returns-6 : tie.Need-returns-6
 unfolding word atomWord meant
-returns-6 c = λ r. sym (ap (λ (t : Token). word t (c .before .before .before .before .before .args .place) (meant r (c .before .before .before .before .before .args .order)) (meant r (c .before .before .before .before .before .args .group)) (meant r (c .before .before .before .before .before .args .job))) (c .before .before .before .token .given .1 ∙ ap Atom (c .enum-told5 .given .1)))
+returns-6 c =
+    let c3 = c .before .before .before in
+    let c5 = c3 .before .before in
+    λ r. sym (ap (λ (t : Token). word t (c5 .args .place) (meant r (c5 .args .order)) (meant r (c5 .args .group)) (meant r (c5 .args .job))) (c3 .token .given .1 ∙ ap Atom (c .enum-told5 .given .1)))
 
 pub word-wanted-spec : {M : Type 1} → statement M
 word-wanted-spec =

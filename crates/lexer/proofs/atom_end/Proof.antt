@@ -31,7 +31,10 @@ is-letter-or-digit-requires c κs = search needs
 
 returns : tie.Need-returns Inv-loop μ-loop
 unfolding part
-returns c = record { tells = c .before .before .before .before .loop .inv .2 ∙ atom-at-byte (c .before .before .before .before .before .before .args .s .now) (c .before .before .before .before .before .before .args .from) (c .before .before .before .before .loop .i) (omega arith) (omega arith) (sym (c .before .is-letter-or-digit .ensures) ∙ not-true _ (c .if1 .taken)); onward = omega arith; inside = omega arith }
+returns c =
+    let c4 = c .before .before .before .before in
+    let c6 = c4 .before .before in
+    record { tells = c4 .loop .inv .2 ∙ atom-at-byte (c6 .args .s .now) (c6 .args .from) (c4 .loop .i) (omega arith) (omega arith) (sym (c .before .is-letter-or-digit .ensures) ∙ not-true _ (c .if1 .taken)); onward = omega arith; inside = omega arith }
 
 add-i-2 : tie.Need-add-i-2 Inv-loop μ-loop
 add-i-2 c = omega arith
@@ -41,11 +44,15 @@ loop-less c = omega arith
 
 loop-again : tie.Need-loop-again Inv-loop μ-loop
 loop-again c =
-    (omega arith, omega arith, c .before .before .before .before .loop .inv .2 ∙ atom-more (c .before .before .before .before .before .before .args .s .now) (c .before .before .before .before .before .before .args .from) (c .before .before .before .before .loop .i) (omega arith) (omega arith) (sym (c .before .is-letter-or-digit .ensures) ∙ not-false _ (c .if1 .left)))
+    let c4 = c .before .before .before .before in
+    let c6 = c4 .before .before in
+    (omega arith, omega arith, c4 .loop .inv .2 ∙ atom-more (c6 .args .s .now) (c6 .args .from) (c4 .loop .i) (omega arith) (omega arith) (sym (c .before .is-letter-or-digit .ensures) ∙ not-false _ (c .if1 .left)))
 
 returns-2 : tie.Need-returns-2 Inv-loop μ-loop
 unfolding part
-returns-2 c = record { tells = c .before .loop .inv .2 ∙ atom-at-end (c .before .before .before .args .s .now) (c .before .before .before .args .from) (c .before .loop .i) (omega arith) (omega arith) (omega arith); onward = omega arith; inside = omega arith }
+returns-2 c =
+    let c3 = c .before .before .before in
+    record { tells = c .before .loop .inv .2 ∙ atom-at-end (c3 .args .s .now) (c3 .args .from) (c .before .loop .i) (omega arith) (omega arith) (omega arith); onward = omega arith; inside = omega arith }
 
 pub atom-end-spec : {M : Type 1} → statement M
 atom-end-spec =

@@ -66,60 +66,77 @@ Begun t = item-lts.After-known-told2 (step-reads.Asked, step-reads.Learnt, three
 
 group-in : (t : ℕ) (c : Bracket t) → Ready (c .before .before .before .before .before .before .before .before .before .before .before .before .before .before .before .before .before .before .args .file .now) (c .before .bracket .given .0 .1 .0) (c .before .bracket .given .0 .0) (c .before .before .before .before .before .before .before .before .before .step .last .1 .1 .1 .0) (c .before .before .before .before .before .before .before .before .before .step .last .1 .1 .1 .1 .0) (c .before .before .before .before .before .before .before .before .before .step .last .1 .1 .1 .1 .1 .0) × (c .before .before .before .before .before .before .before .before .before .before .before .before .before .loop .from < c .before .bracket .given .0 .1 .0) × Moved (c .before .before .before .before .before .before .before .before .before .before .before .before .before .loop .here .wanted) (c .before .before .before .before .before .before .before .before .before .before .before .before .before .loop .here .level) (c .before .bracket .given .0 .0 .wanted) (c .before .bracket .given .0 .0 .level)
 group-in t c =
-    let l = c .before .before .before .before .before .before .before .before .before .before .before .before .before in
-    let s = c .before .before .before .before .before .before .before .before .before in
-    reached-on (λ x. Moved (l .loop .here .wanted) (l .loop .here .level) (x .wanted) (x .level)) (c .before .before .before .before .before .before .before .before .before .before .before .before .before .before .before .before .before .before .args .file .now) (l .loop .from) (c .before .bracket .given .0 .1 .0) (l .loop .here) (c .before .bracket .given .0 .0) (l .loop .work) (l .loop .due) (l .loop .least) (s .step .last .1 .1 .1 .0) (s .step .last .1 .1 .1 .1 .0) (s .step .last .1 .1 .1 .1 .1 .0) (s .step .result) (l .loop .inv .0) (record { same-work = s .step .kept .1 .1 .1 .0; same-due = s .step .kept .1 .1 .1 .1 .0; same-least = s .step .kept .1 .1 .1 .1 .1 .0 }) (c .before .bracket .given .1) (s .step .ensures)
+    let c9 = c .before .before .before .before .before .before .before .before .before in
+    let c13 = c9 .before .before .before .before in
+    let c18 = c13 .before .before .before .before .before in
+    let l = c13 in
+    let s = c9 in
+    reached-on (λ x. Moved (l .loop .here .wanted) (l .loop .here .level) (x .wanted) (x .level)) (c18 .args .file .now) (l .loop .from) (c .before .bracket .given .0 .1 .0) (l .loop .here) (c .before .bracket .given .0 .0) (l .loop .work) (l .loop .due) (l .loop .least) (s .step .last .1 .1 .1 .0) (s .step .last .1 .1 .1 .1 .0) (s .step .last .1 .1 .1 .1 .1 .0) (s .step .result) (l .loop .inv .0) (record { same-work = s .step .kept .1 .1 .1 .0; same-due = s .step .kept .1 .1 .1 .1 .0; same-least = s .step .kept .1 .1 .1 .1 .1 .0 }) (c .before .bracket .given .1) (s .step .ensures)
 
 group-kept : (t : ℕ) (c : Bracket t) → Kept (c .before .before .before .before .before .before .before .before .before .before .before .before .before .before .before .before .before .before .args .work .now) (c .before .before .before .before .before .before .before .before .before .before .before .before .before .before .before .before .before .before .args .due .now) (c .before .before .before .before .before .before .before .before .before .before .before .before .before .before .before .before .before .before .args .least .now) (c .before .before .before .before .before .before .before .before .before .step .last .1 .1 .1 .0) (c .before .before .before .before .before .before .before .before .before .step .last .1 .1 .1 .1 .0) (c .before .before .before .before .before .before .before .before .before .step .last .1 .1 .1 .1 .1 .0)
 group-kept t c =
-    let k = c .before .before .before .before .before .before .before .before .before .before .before .before .before .loop .inv .1 in
-    let s = c .before .before .before .before .before .before .before .before .before in
+    let c9 = c .before .before .before .before .before .before .before .before .before in
+    let c13 = c9 .before .before .before .before in
+    let k = c13 .loop .inv .1 in
+    let s = c9 in
     record { same-work = s .step .kept .1 .1 .1 .0 ∙ k .same-work; same-due = s .step .kept .1 .1 .1 .1 .0 ∙ k .same-due; same-least = s .step .kept .1 .1 .1 .1 .1 .0 ∙ k .same-least }
 
 group-back : (t : ℕ) (c : Behind t) → Ready (c .before .before .before .before .before .before .before .before .before .before .before .before .before .before .before .before .before .before .before .before .before .before .before .before .before .before .before .before .before .before .before .before .before .args .file .now) (c .before .read .given .0 .1 .0) (c .before .read .given .0 .0) (c .before .before .before .before .before .before .before .before .before .item .last .1 .1 .1 .1 .0) (c .before .before .before .before .before .before .before .before .before .item .last .1 .1 .1 .1 .1 .0) (c .before .before .before .before .before .before .before .before .before .item .last .1 .1 .1 .1 .1 .1 .0) × (c .before .before .before .before .before .before .before .before .before .before .before .before .before .before .before .before .bracket .given .0 .1 .0 < c .before .read .given .0 .1 .0) × Stays (c .before .before .before .before .before .before .before .before .before .before .before .before .before .before .before .before .bracket .given .0 .0) (c .before .read .given .0 .0)
 group-back t c =
-    let k = c .before .before .before .before .before .before .before .before .before .before .before .before .before .before .before in
-    let s = c .before .before .before .before .before .before .before .before .before in
+    let c9 = c .before .before .before .before .before .before .before .before .before in
+    let c15 = c9 .before .before .before .before .before .before in
+    let k = c15 in
+    let s = c9 in
     reached-on (Stays (k .before .bracket .given .0 .0)) (k .before .before .before .before .before .before .before .before .before .before .before .before .before .before .before .before .before .before .args .file .now) (k .before .bracket .given .0 .1 .0) (c .before .read .given .0 .1 .0) (k .before .bracket .given .0 .0) (c .before .read .given .0 .0) (k .before .before .before .before .before .before .before .before .before .step .last .1 .1 .1 .0) (k .before .before .before .before .before .before .before .before .before .step .last .1 .1 .1 .1 .0) (k .before .before .before .before .before .before .before .before .before .step .last .1 .1 .1 .1 .1 .0) (s .item .last .1 .1 .1 .1 .0) (s .item .last .1 .1 .1 .1 .1 .0) (s .item .last .1 .1 .1 .1 .1 .1 .0) (s .item .result) (group-in t k .0) (record { same-work = s .item .kept .1 .1 .1 .1 .0; same-due = s .item .kept .1 .1 .1 .1 .1 .0; same-least = s .item .kept .1 .1 .1 .1 .1 .1 .0 }) (c .before .read .given .1) (s .item .ensures)
 
 item-in : (t : ℕ) (c : Named t) → Ready (c .before .before .before .before .before .before .before .before .before .before .before .before .before .before .before .before .before .args .file .now) (c .before .named .given .0 .1 .0) (c .before .named .given .0 .0) (c .before .before .before .before .before .before .before .before .before .step .last .1 .1 .1 .0) (c .before .before .before .before .before .before .before .before .before .step .last .1 .1 .1 .1 .0) (c .before .before .before .before .before .before .before .before .before .step .last .1 .1 .1 .1 .1 .0) × (c .before .before .before .before .before .before .before .before .before .before .before .before .before .before .before .before .before .args .at < c .before .named .given .0 .1 .0) × Moved (c .before .before .before .before .before .before .before .before .before .before .before .before .before .before .before .before .before .args .state .wanted) (c .before .before .before .before .before .before .before .before .before .before .before .before .before .before .before .before .before .args .state .level) (c .before .named .given .0 .0 .wanted) (c .before .named .given .0 .0 .level)
 item-in t c =
-    let a = c .before .before .before .before .before .before .before .before .before .before .before .before .before .before .before .before .before in
-    let s = c .before .before .before .before .before .before .before .before .before in
+    let c9 = c .before .before .before .before .before .before .before .before .before in
+    let c17 = c9 .before .before .before .before .before .before .before .before in
+    let a = c17 in
+    let s = c9 in
     reached-on (λ x. Moved (a .args .state .wanted) (a .args .state .level) (x .wanted) (x .level)) (a .args .file .now) (a .args .at) (c .before .named .given .0 .1 .0) (a .args .state) (c .before .named .given .0 .0) (a .args .work .now) (a .args .due .now) (a .args .least .now) (s .step .last .1 .1 .1 .0) (s .step .last .1 .1 .1 .1 .0) (s .step .last .1 .1 .1 .1 .1 .0) (s .step .result) (a .pre .1 .0) (record { same-work = s .step .kept .1 .1 .1 .0; same-due = s .step .kept .1 .1 .1 .1 .0; same-least = s .step .kept .1 .1 .1 .1 .1 .0 }) (c .before .named .given .1) (s .step .ensures)
 
 item-kept : (t : ℕ) (c : Named t) → Kept (c .before .before .before .before .before .before .before .before .before .before .before .before .before .before .before .before .before .args .work .now) (c .before .before .before .before .before .before .before .before .before .before .before .before .before .before .before .before .before .args .due .now) (c .before .before .before .before .before .before .before .before .before .before .before .before .before .before .before .before .before .args .least .now) (c .before .before .before .before .before .before .before .before .before .step .last .1 .1 .1 .0) (c .before .before .before .before .before .before .before .before .before .step .last .1 .1 .1 .1 .0) (c .before .before .before .before .before .before .before .before .before .step .last .1 .1 .1 .1 .1 .0)
 item-kept t c =
-    let s = c .before .before .before .before .before .before .before .before .before in
+    let c9 = c .before .before .before .before .before .before .before .before .before in
+    let s = c9 in
     record { same-work = s .step .kept .1 .1 .1 .0; same-due = s .step .kept .1 .1 .1 .1 .0; same-least = s .step .kept .1 .1 .1 .1 .1 .0 }
 
 -- an item that is no group is a job
 item-job : (t : ℕ) (c : NoGroup t) → (togo (c .before .before .named .given .0 .0 .wanted) ≡ 3) × (c .before .before .named .given .0 .0 .level ≡ c .before .before .before .before .before .before .before .before .before .before .before .before .before .before .before .before .before .before .args .state .level)
 item-job t c =
-    let a = c .before .before .before .before .before .before .before .before .before .before .before .before .before .before .before .before .before .before in
+    let c18 = c .before .before .before .before .before .before .before .before .before .before .before .before .before .before .before .before .before .before in
+    let a = c18 in
     let n = c .before .before in
     is-job (a .args .state .wanted) (n .named .given .0 .0 .wanted) (a .args .state .level) (n .named .given .0 .0 .level) (a .pre .1 .1) (no-group (n .named .given .0 .0 .wanted) (c .match2 .keys2)) (item-in t (c .before) .2)
 
 item-deeper : (t : ℕ) (c : Begun t) → Ready (c .before .before .before .before .before .before .before .before .before .before .before .before .before .before .before .before .before .before .before .before .before .before .before .before .before .before .before .before .before .before .before .before .args .file .now) (c .before .begun .given .0 .1 .0) (c .before .begun .given .0 .0) (c .before .before .before .before .before .before .before .before .before .step2 .last .1 .1 .1 .0) (c .before .before .before .before .before .before .before .before .before .step2 .last .1 .1 .1 .1 .0) (c .before .before .before .before .before .before .before .before .before .step2 .last .1 .1 .1 .1 .1 .0) × (c .before .before .before .before .before .before .before .before .before .before .before .before .before .before .before .before .named .given .0 .1 .0 < c .before .begun .given .0 .1 .0) × Moved (c .before .before .before .before .before .before .before .before .before .before .before .before .before .before .before .before .named .given .0 .0 .wanted) (c .before .before .before .before .before .before .before .before .before .before .before .before .before .before .before .before .named .given .0 .0 .level) (c .before .begun .given .0 .0 .wanted) (c .before .begun .given .0 .0 .level)
 item-deeper t c =
-    let k = c .before .before .before .before .before .before .before .before .before .before .before .before .before .before .before in
-    let s = c .before .before .before .before .before .before .before .before .before in
+    let c9 = c .before .before .before .before .before .before .before .before .before in
+    let c15 = c9 .before .before .before .before .before .before in
+    let k = c15 in
+    let s = c9 in
     reached-on (λ x. Moved (k .before .named .given .0 .0 .wanted) (k .before .named .given .0 .0 .level) (x .wanted) (x .level)) (k .before .before .before .before .before .before .before .before .before .before .before .before .before .before .before .before .before .args .file .now) (k .before .named .given .0 .1 .0) (c .before .begun .given .0 .1 .0) (k .before .named .given .0 .0) (c .before .begun .given .0 .0) (k .before .before .before .before .before .before .before .before .before .step .last .1 .1 .1 .0) (k .before .before .before .before .before .before .before .before .before .step .last .1 .1 .1 .1 .0) (k .before .before .before .before .before .before .before .before .before .step .last .1 .1 .1 .1 .1 .0) (s .step2 .last .1 .1 .1 .0) (s .step2 .last .1 .1 .1 .1 .0) (s .step2 .last .1 .1 .1 .1 .1 .0) (s .step2 .result) (item-in t k .0) (record { same-work = s .step2 .kept .1 .1 .1 .0; same-due = s .step2 .kept .1 .1 .1 .1 .0; same-least = s .step2 .kept .1 .1 .1 .1 .1 .0 }) (c .before .begun .given .1) (s .step2 .ensures)
 
 item-kept-2 : (t : ℕ) (c : Begun t) → Kept (c .before .before .before .before .before .before .before .before .before .before .before .before .before .before .before .before .before .before .before .before .before .before .before .before .before .before .before .before .before .before .before .before .args .work .now) (c .before .before .before .before .before .before .before .before .before .before .before .before .before .before .before .before .before .before .before .before .before .before .before .before .before .before .before .before .before .before .before .before .args .due .now) (c .before .before .before .before .before .before .before .before .before .before .before .before .before .before .before .before .before .before .before .before .before .before .before .before .before .before .before .before .before .before .before .before .args .least .now) (c .before .before .before .before .before .before .before .before .before .step2 .last .1 .1 .1 .0) (c .before .before .before .before .before .before .before .before .before .step2 .last .1 .1 .1 .1 .0) (c .before .before .before .before .before .before .before .before .before .step2 .last .1 .1 .1 .1 .1 .0)
 item-kept-2 t c =
-    let k = item-kept t (c .before .before .before .before .before .before .before .before .before .before .before .before .before .before .before) in
-    let s = c .before .before .before .before .before .before .before .before .before in
+    let c9 = c .before .before .before .before .before .before .before .before .before in
+    let c15 = c9 .before .before .before .before .before .before in
+    let k = item-kept t (c15) in
+    let s = c9 in
     record { same-work = s .step2 .kept .1 .1 .1 .0 ∙ k .same-work; same-due = s .step2 .kept .1 .1 .1 .1 .0 ∙ k .same-due; same-least = s .step2 .kept .1 .1 .1 .1 .1 .0 ∙ k .same-least }
 
 -- the level of the item, that there is room for a level, and what is wanted within the group
 item-group : (t : ℕ) (c : Begun t) → (c .before .before .before .before .before .before .before .before .before .before .before .before .before .before .before .before .named .given .0 .0 .level ≡ c .before .before .before .before .before .before .before .before .before .before .before .before .before .before .before .before .before .before .before .before .before .before .before .before .before .before .before .before .before .before .before .before .args .state .level) × (c .before .before .before .before .before .before .before .before .before .before .before .before .before .before .before .before .before .before .before .before .before .before .before .before .before .before .before .before .before .before .before .before .args .state .level < 32) × ((c .before .begun .given .0 .0 .wanted ≡ ItemOrClose) × (c .before .begun .given .0 .0 .level ≡ c .before .before .before .before .before .before .before .before .before .before .before .before .before .before .before .before .named .given .0 .0 .level + 1))
 item-group t c =
-    let k = c .before .before .before .before .before .before .before .before .before .before .before .before .before .before .before in
+    let c13 = c .before .before .before .before .before .before .before .before .before .before .before .before .before in
+    let c15 = c13 .before .before in
+    let k = c15 in
     let a = k .before .before .before .before .before .before .before .before .before .before .before .before .before .before .before .before .before in
     let n = k .before in
-    let g = is-group (a .args .state .wanted) (n .named .given .0 .0 .wanted) (a .args .state .level) (n .named .given .0 .0 .level) (a .pre .1 .1) (c .before .before .before .before .before .before .before .before .before .before .before .before .before .enum-told2 .given .1) (item-in t k .2) in
-    (g .0, g .1, at-group (n .named .given .0 .0 .wanted) (c .before .begun .given .0 .0 .wanted) (n .named .given .0 .0 .level) (c .before .begun .given .0 .0 .level) (c .before .before .before .before .before .before .before .before .before .before .before .before .before .enum-told2 .given .1) (item-deeper t c .2))
+    let g = is-group (a .args .state .wanted) (n .named .given .0 .0 .wanted) (a .args .state .level) (n .named .given .0 .0 .level) (a .pre .1 .1) (c13 .enum-told2 .given .1) (item-in t k .2) in
+    (g .0, g .1, at-group (n .named .given .0 .0 .wanted) (c .before .begun .given .0 .0 .wanted) (n .named .given .0 .0 .level) (c .before .begun .given .0 .0 .level) (c13 .enum-told2 .given .1) (item-deeper t c .2))
 
 group-loop-holds : (t : ℕ) → group-lts.Need-loop-holds (
   step-reads.Asked,
@@ -127,7 +144,9 @@ group-loop-holds : (t : ℕ) → group-lts.Need-loop-holds (
   item-below t,
   item.Post,
 ) (group-at t) group.Post group-Inv-loop group-μ-loop
-group-loop-holds t c = (c .before .before .before .before .pre .1 .0, record { same-work = refl; same-due = refl; same-least = refl }, c .before .before .before .before .pre .1 .1, refl, omega arith)
+group-loop-holds t c =
+    let c4 = c .before .before .before .before in
+    (c4 .pre .1 .0, record { same-work = refl; same-due = refl; same-least = refl }, c4 .pre .1 .1, refl, omega arith)
 
 group-step-requires : (t : ℕ) → group-lts.Need-step-requires (
   step-reads.Asked,
@@ -135,7 +154,9 @@ group-step-requires : (t : ℕ) → group-lts.Need-step-requires (
   item-below t,
   item.Post,
 ) (group-at t) group.Post group-Inv-loop group-μ-loop
-group-step-requires t c κs = c .before .before .before .loop .inv .0
+group-step-requires t c κs =
+    let c3 = c .before .before .before in
+    c3 .loop .inv .0
 
 group-enum-known-bracket : (t : ℕ) → group-lts.Need-enum-known-bracket (
   step-reads.Asked,
@@ -159,7 +180,10 @@ group-same-length : (t : ℕ) → group-lts.Need-same-length (
   item-below t,
   item.Post,
 ) (group-at t) group.Post group-Inv-loop group-μ-loop
-group-same-length t c = c .before .before .before .before .before .before .before .before .step .kept .1 .1 .1 .0 ∙ c .before .before .before .before .before .before .before .before .before .before .before .before .loop .inv .1 .same-work
+group-same-length t c =
+    let c8 = c .before .before .before .before .before .before .before .before in
+    let c12 = c8 .before .before .before .before in
+    c8 .step .kept .1 .1 .1 .0 ∙ c12 .loop .inv .1 .same-work
 
 group-same-length-2 : (t : ℕ) → group-lts.Need-same-length-2 (
   step-reads.Asked,
@@ -167,7 +191,10 @@ group-same-length-2 : (t : ℕ) → group-lts.Need-same-length-2 (
   item-below t,
   item.Post,
 ) (group-at t) group.Post group-Inv-loop group-μ-loop
-group-same-length-2 t c = c .before .before .before .before .before .before .before .before .step .kept .1 .1 .1 .1 .0 ∙ c .before .before .before .before .before .before .before .before .before .before .before .before .loop .inv .1 .same-due
+group-same-length-2 t c =
+    let c8 = c .before .before .before .before .before .before .before .before in
+    let c12 = c8 .before .before .before .before in
+    c8 .step .kept .1 .1 .1 .1 .0 ∙ c12 .loop .inv .1 .same-due
 
 group-same-length-3 : (t : ℕ) → group-lts.Need-same-length-3 (
   step-reads.Asked,
@@ -175,7 +202,10 @@ group-same-length-3 : (t : ℕ) → group-lts.Need-same-length-3 (
   item-below t,
   item.Post,
 ) (group-at t) group.Post group-Inv-loop group-μ-loop
-group-same-length-3 t c = c .before .before .before .before .before .before .before .before .step .kept .1 .1 .1 .1 .1 .0 ∙ c .before .before .before .before .before .before .before .before .before .before .before .before .loop .inv .1 .same-least
+group-same-length-3 t c =
+    let c8 = c .before .before .before .before .before .before .before .before in
+    let c12 = c8 .before .before .before .before in
+    c8 .step .kept .1 .1 .1 .1 .1 .0 ∙ c12 .loop .inv .1 .same-least
 
 group-returns : (t : ℕ) → group-lts.Need-returns (
   step-reads.Asked,
@@ -184,9 +214,12 @@ group-returns : (t : ℕ) → group-lts.Need-returns (
   item.Post,
 ) (group-at t) group.Post group-Inv-loop group-μ-loop
 group-returns t c =
-    let l = c .before .before .before .before .before .before .before .before .before .before .before .before in
-    let s = c .before .before .before .before .before .before .before .before in
-    off-to (λ x. Moved (l .loop .here .wanted) (l .loop .here .level) (x .wanted) (x .level)) (λ x. Closes (c .before .before .before .before .before .before .before .before .before .before .before .before .before .before .before .before .before .args .state .level) (x .wanted) (x .level)) (c .before .before .before .before .before .before .before .before .before .before .before .before .before .before .before .before .before .args .file .now) (l .loop .from) (c .before .before .before .before .before .before .before .before .before .before .before .before .before .before .before .before .before .args .at) (s .step .result) _ (s .step .last .1 .1 .1 .0) (s .step .last .1 .1 .1 .1 .0) (s .step .last .1 .1 .1 .1 .1 .0) (c .enum-told .given .1) (s .step .ensures)
+    let c8 = c .before .before .before .before .before .before .before .before in
+    let c12 = c8 .before .before .before .before in
+    let c17 = c12 .before .before .before .before .before in
+    let l = c12 in
+    let s = c8 in
+    off-to (λ x. Moved (l .loop .here .wanted) (l .loop .here .level) (x .wanted) (x .level)) (λ x. Closes (c17 .args .state .level) (x .wanted) (x .level)) (c17 .args .file .now) (l .loop .from) (c17 .args .at) (s .step .result) _ (s .step .last .1 .1 .1 .0) (s .step .last .1 .1 .1 .1 .0) (s .step .last .1 .1 .1 .1 .1 .0) (c .enum-told .given .1) (s .step .ensures)
 
 group-enum-told-2 : (t : ℕ) → group-lts.Need-enum-told-2 (
   step-reads.Asked,
@@ -227,7 +260,8 @@ group-returns-2 : (t : ℕ) → group-lts.Need-returns-2 (
   item.Post,
 ) (group-at t) group.Post group-Inv-loop group-μ-loop
 group-returns-2 t c =
-    let l = c .before .before .before .before .before .before .before .before .before .before .before .before .before .before in
+    let c14 = c .before .before .before .before .before .before .before .before .before .before .before .before .before .before in
+    let l = c14 in
     let b = c .before .before in
     let o = group-in t (c .before) in
     let z = is-close (l .loop .here .wanted) (b .bracket .given .0 .0 .wanted) (l .loop .here .level) (b .bracket .given .0 .0 .level) (l .loop .inv .2) (no-item (b .bracket .given .0 .0 .wanted) (c .match2 .keys2)) (o .2) in
@@ -240,11 +274,16 @@ group-item-requires : (t : ℕ) → group-lts.Need-item-requires (
   item.Post,
 ) (group-at t) group.Post group-Inv-loop group-μ-loop
 group-item-requires t c κs =
-    let l = c .before .before .before .before .before .before .before .before .before .before .before .before .before .before .before .before .before .before in
-    let b = c .before .before .before .before .before .before in
-    let o = group-in t (c .before .before .before .before .before) in
-    let e = is-item (l .loop .here .wanted) (b .bracket .given .0 .0 .wanted) (l .loop .here .level) (b .bracket .given .0 .0 .level) (l .loop .inv .2) (c .before .before .before .enum-told2 .given .1) (o .2) in
-    (omega (arith, c .before .before .before .before .before .before .before .before .before .before .before .before .before .before .before .before .before .before .before .before .before .before .before .pre .0), (o .0, c .before .before .before .enum-told2 .given .1, omega (arith, e, l .loop .inv .3, c .before .before .before .before .before .before .before .before .before .before .before .before .before .before .before .before .before .before .before .before .before .before .before .pre .1 .2)))
+    let c3 = c .before .before .before in
+    let c5 = c3 .before .before in
+    let c6 = c5 .before in
+    let c18 = c6 .before .before .before .before .before .before .before .before .before .before .before .before in
+    let c23 = c18 .before .before .before .before .before in
+    let l = c18 in
+    let b = c6 in
+    let o = group-in t (c5) in
+    let e = is-item (l .loop .here .wanted) (b .bracket .given .0 .0 .wanted) (l .loop .here .level) (b .bracket .given .0 .0 .level) (l .loop .inv .2) (c3 .enum-told2 .given .1) (o .2) in
+    (omega (arith, c23 .pre .0), (o .0, c3 .enum-told2 .given .1, omega (arith, e, l .loop .inv .3, c23 .pre .1 .2)))
 
 group-enum-known-read : (t : ℕ) → group-lts.Need-enum-known-read (
   step-reads.Asked,
@@ -268,7 +307,10 @@ group-same-length-7 : (t : ℕ) → group-lts.Need-same-length-7 (
   item-below t,
   item.Post,
 ) (group-at t) group.Post group-Inv-loop group-μ-loop
-group-same-length-7 t c = c .before .before .before .before .before .before .before .before .item .kept .1 .1 .1 .1 .0 ∙ group-kept t (c .before .before .before .before .before .before .before .before .before .before .before .before .before .before) .same-work
+group-same-length-7 t c =
+    let c8 = c .before .before .before .before .before .before .before .before in
+    let c14 = c8 .before .before .before .before .before .before in
+    c8 .item .kept .1 .1 .1 .1 .0 ∙ group-kept t (c14) .same-work
 
 group-same-length-8 : (t : ℕ) → group-lts.Need-same-length-8 (
   step-reads.Asked,
@@ -276,7 +318,10 @@ group-same-length-8 : (t : ℕ) → group-lts.Need-same-length-8 (
   item-below t,
   item.Post,
 ) (group-at t) group.Post group-Inv-loop group-μ-loop
-group-same-length-8 t c = c .before .before .before .before .before .before .before .before .item .kept .1 .1 .1 .1 .1 .0 ∙ group-kept t (c .before .before .before .before .before .before .before .before .before .before .before .before .before .before) .same-due
+group-same-length-8 t c =
+    let c8 = c .before .before .before .before .before .before .before .before in
+    let c14 = c8 .before .before .before .before .before .before in
+    c8 .item .kept .1 .1 .1 .1 .1 .0 ∙ group-kept t (c14) .same-due
 
 group-same-length-9 : (t : ℕ) → group-lts.Need-same-length-9 (
   step-reads.Asked,
@@ -284,7 +329,10 @@ group-same-length-9 : (t : ℕ) → group-lts.Need-same-length-9 (
   item-below t,
   item.Post,
 ) (group-at t) group.Post group-Inv-loop group-μ-loop
-group-same-length-9 t c = c .before .before .before .before .before .before .before .before .item .kept .1 .1 .1 .1 .1 .1 .0 ∙ group-kept t (c .before .before .before .before .before .before .before .before .before .before .before .before .before .before) .same-least
+group-same-length-9 t c =
+    let c8 = c .before .before .before .before .before .before .before .before in
+    let c14 = c8 .before .before .before .before .before .before in
+    c8 .item .kept .1 .1 .1 .1 .1 .1 .0 ∙ group-kept t (c14) .same-least
 
 group-returns-3 : (t : ℕ) → group-lts.Need-returns-3 (
   step-reads.Asked,
@@ -293,8 +341,10 @@ group-returns-3 : (t : ℕ) → group-lts.Need-returns-3 (
   item.Post,
 ) (group-at t) group.Post group-Inv-loop group-μ-loop
 group-returns-3 t c =
-    let k = c .before .before .before .before .before .before .before .before .before .before .before .before .before .before in
-    let s = c .before .before .before .before .before .before .before .before in
+    let c8 = c .before .before .before .before .before .before .before .before in
+    let c14 = c8 .before .before .before .before .before .before in
+    let k = c14 in
+    let s = c8 in
     off-to (Stays (k .before .bracket .given .0 .0)) (λ x. Closes (k .before .before .before .before .before .before .before .before .before .before .before .before .before .before .before .before .before .before .args .state .level) (x .wanted) (x .level)) (k .before .before .before .before .before .before .before .before .before .before .before .before .before .before .before .before .before .before .args .file .now) (k .before .bracket .given .0 .1 .0) (k .before .before .before .before .before .before .before .before .before .before .before .before .before .before .before .before .before .before .args .at) (s .item .result) _ (s .item .last .1 .1 .1 .1 .0) (s .item .last .1 .1 .1 .1 .1 .0) (s .item .last .1 .1 .1 .1 .1 .1 .0) (c .enum-told3 .given .1) (s .item .ensures)
 
 group-loop-less : (t : ℕ) → group-lts.Need-loop-less (
@@ -303,7 +353,9 @@ group-loop-less : (t : ℕ) → group-lts.Need-loop-less (
   item-below t,
   item.Post,
 ) (group-at t) group.Post group-Inv-loop group-μ-loop
-group-loop-less t c = omega (arith, group-in t (c .before .before .before .before .before .before .before .before .before .before .before .before .before .before .before) .1, group-back t c .1, group-back t c .0 .stands .inside)
+group-loop-less t c =
+    let c15 = c .before .before .before .before .before .before .before .before .before .before .before .before .before .before .before in
+    omega (arith, group-in t (c15) .1, group-back t c .1, group-back t c .0 .stands .inside)
 
 group-loop-again : (t : ℕ) → group-lts.Need-loop-again (
   step-reads.Asked,
@@ -312,13 +364,16 @@ group-loop-again : (t : ℕ) → group-lts.Need-loop-again (
   item.Post,
 ) (group-at t) group.Post group-Inv-loop group-μ-loop
 group-loop-again t c =
-    let k = c .before .before .before .before .before .before .before .before .before .before .before .before .before .before .before in
+    let c9 = c .before .before .before .before .before .before .before .before .before in
+    let c13 = c9 .before .before .before .before in
+    let c15 = c13 .before .before in
+    let k = c15 in
     let l = k .before .before .before .before .before .before .before .before .before .before .before .before .before in
     let b = k .before in
     let o = group-in t k in
     let r = group-back t c in
-    let e = is-item (l .loop .here .wanted) (b .bracket .given .0 .0 .wanted) (l .loop .here .level) (b .bracket .given .0 .0 .level) (l .loop .inv .2) (c .before .before .before .before .before .before .before .before .before .before .before .before .before .enum-told2 .given .1) (o .2) in
-    (r .0, kept-on _ _ _ _ _ _ _ _ _ (group-kept t k) (record { same-work = c .before .before .before .before .before .before .before .before .before .item .kept .1 .1 .1 .1 .0; same-due = c .before .before .before .before .before .before .before .before .before .item .kept .1 .1 .1 .1 .1 .0; same-least = c .before .before .before .before .before .before .before .before .before .item .kept .1 .1 .1 .1 .1 .1 .0 }), r .2 .0, r .2 .1 ∙ e ∙ l .loop .inv .3, omega (arith, l .loop .inv .4, o .1, r .1))
+    let e = is-item (l .loop .here .wanted) (b .bracket .given .0 .0 .wanted) (l .loop .here .level) (b .bracket .given .0 .0 .level) (l .loop .inv .2) (c13 .enum-told2 .given .1) (o .2) in
+    (r .0, kept-on _ _ _ _ _ _ _ _ _ (group-kept t k) (record { same-work = c9 .item .kept .1 .1 .1 .1 .0; same-due = c9 .item .kept .1 .1 .1 .1 .1 .0; same-least = c9 .item .kept .1 .1 .1 .1 .1 .1 .0 }), r .2 .0, r .2 .1 ∙ e ∙ l .loop .inv .3, omega (arith, l .loop .inv .4, o .1, r .1))
 
 item-step-requires : (t : ℕ) → item-lts.Need-step-requires (
   step-reads.Asked,
@@ -328,7 +383,9 @@ item-step-requires : (t : ℕ) → item-lts.Need-step-requires (
   group-below t,
   group.Post,
 ) (item-at t) item.Post
-item-step-requires t c κs = c .before .before .before .before .before .before .before .pre .1 .0
+item-step-requires t c κs =
+    let c7 = c .before .before .before .before .before .before .before in
+    c7 .pre .1 .0
 
 item-enum-known-named : (t : ℕ) → item-lts.Need-enum-known-named (
   step-reads.Asked,
@@ -358,7 +415,9 @@ item-same-length : (t : ℕ) → item-lts.Need-same-length (
   group-below t,
   group.Post,
 ) (item-at t) item.Post
-item-same-length t c = c .before .before .before .before .before .before .before .before .step .kept .1 .1 .1 .0
+item-same-length t c =
+    let c8 = c .before .before .before .before .before .before .before .before in
+    c8 .step .kept .1 .1 .1 .0
 
 item-same-length-2 : (t : ℕ) → item-lts.Need-same-length-2 (
   step-reads.Asked,
@@ -368,7 +427,9 @@ item-same-length-2 : (t : ℕ) → item-lts.Need-same-length-2 (
   group-below t,
   group.Post,
 ) (item-at t) item.Post
-item-same-length-2 t c = c .before .before .before .before .before .before .before .before .step .kept .1 .1 .1 .1 .0
+item-same-length-2 t c =
+    let c8 = c .before .before .before .before .before .before .before .before in
+    c8 .step .kept .1 .1 .1 .1 .0
 
 item-same-length-3 : (t : ℕ) → item-lts.Need-same-length-3 (
   step-reads.Asked,
@@ -378,7 +439,9 @@ item-same-length-3 : (t : ℕ) → item-lts.Need-same-length-3 (
   group-below t,
   group.Post,
 ) (item-at t) item.Post
-item-same-length-3 t c = c .before .before .before .before .before .before .before .before .step .kept .1 .1 .1 .1 .1 .0
+item-same-length-3 t c =
+    let c8 = c .before .before .before .before .before .before .before .before in
+    c8 .step .kept .1 .1 .1 .1 .1 .0
 
 item-returns : (t : ℕ) → item-lts.Need-returns (
   step-reads.Asked,
@@ -389,8 +452,10 @@ item-returns : (t : ℕ) → item-lts.Need-returns (
   group.Post,
 ) (item-at t) item.Post
 item-returns t c =
-    let s = c .before .before .before .before .before .before .before .before in
-    let a = c .before .before .before .before .before .before .before .before .before .before .before .before .before .before .before .before in
+    let c8 = c .before .before .before .before .before .before .before .before in
+    let c16 = c8 .before .before .before .before .before .before .before .before in
+    let s = c8 in
+    let a = c16 in
     off-to (λ x. Moved (a .args .state .wanted) (a .args .state .level) (x .wanted) (x .level)) (Stays (a .args .state)) (a .args .file .now) (a .args .at) (a .args .at) (s .step .result) _ (s .step .last .1 .1 .1 .0) (s .step .last .1 .1 .1 .1 .0) (s .step .last .1 .1 .1 .1 .1 .0) (c .enum-told .given .1) (s .step .ensures)
 
 item-enum-told-2 : (t : ℕ) → item-lts.Need-enum-told-2 (
@@ -411,7 +476,10 @@ item-three-requires : (t : ℕ) → item-lts.Need-three-requires (
   group-below t,
   group.Post,
 ) (item-at t) item.Post
-item-three-requires t c κs = (item-in t (c .before .before .before .before) .0, item-job t (c .before .before .before) .0)
+item-three-requires t c κs =
+    let c3 = c .before .before .before in
+    let c4 = c3 .before in
+    (item-in t (c4) .0, item-job t (c3) .0)
 
 item-same-length-4 : (t : ℕ) → item-lts.Need-same-length-4 (
   step-reads.Asked,
@@ -421,7 +489,10 @@ item-same-length-4 : (t : ℕ) → item-lts.Need-same-length-4 (
   group-below t,
   group.Post,
 ) (item-at t) item.Post
-item-same-length-4 t c = c .before .before .before .before .before .before .three .kept .1 .1 .1 .0 ∙ item-kept t (c .before .before .before .before .before .before .before .before .before .before .before) .same-work
+item-same-length-4 t c =
+    let c6 = c .before .before .before .before .before .before in
+    let c11 = c6 .before .before .before .before .before in
+    c6 .three .kept .1 .1 .1 .0 ∙ item-kept t (c11) .same-work
 
 item-same-length-5 : (t : ℕ) → item-lts.Need-same-length-5 (
   step-reads.Asked,
@@ -431,7 +502,10 @@ item-same-length-5 : (t : ℕ) → item-lts.Need-same-length-5 (
   group-below t,
   group.Post,
 ) (item-at t) item.Post
-item-same-length-5 t c = c .before .before .before .before .before .before .three .kept .1 .1 .1 .1 .0 ∙ item-kept t (c .before .before .before .before .before .before .before .before .before .before .before) .same-due
+item-same-length-5 t c =
+    let c6 = c .before .before .before .before .before .before in
+    let c11 = c6 .before .before .before .before .before in
+    c6 .three .kept .1 .1 .1 .1 .0 ∙ item-kept t (c11) .same-due
 
 item-same-length-6 : (t : ℕ) → item-lts.Need-same-length-6 (
   step-reads.Asked,
@@ -441,7 +515,10 @@ item-same-length-6 : (t : ℕ) → item-lts.Need-same-length-6 (
   group-below t,
   group.Post,
 ) (item-at t) item.Post
-item-same-length-6 t c = c .before .before .before .before .before .before .three .kept .1 .1 .1 .1 .1 .0 ∙ item-kept t (c .before .before .before .before .before .before .before .before .before .before .before) .same-least
+item-same-length-6 t c =
+    let c6 = c .before .before .before .before .before .before in
+    let c11 = c6 .before .before .before .before .before in
+    c6 .three .kept .1 .1 .1 .1 .1 .0 ∙ item-kept t (c11) .same-least
 
 item-returns-2 : (t : ℕ) → item-lts.Need-returns-2 (
   step-reads.Asked,
@@ -452,9 +529,12 @@ item-returns-2 : (t : ℕ) → item-lts.Need-returns-2 (
   group.Post,
 ) (item-at t) item.Post
 item-returns-2 t c =
-    let k = c .before .before .before .before .before .before .before .before .before .before .before in
-    let s = c .before .before .before .before .before .before in
-    to-more (Stays (k .before .named .given .0 .0)) (Stays (k .before .before .before .before .before .before .before .before .before .before .before .before .before .before .before .before .before .args .state)) (k .before .before .before .before .before .before .before .before .before .before .before .before .before .before .before .before .before .args .file .now) (k .before .named .given .0 .1 .0) (k .before .before .before .before .before .before .before .before .before .before .before .before .before .before .before .before .before .args .at) (s .three .result) (s .three .last .1 .1 .1 .0) (s .three .last .1 .1 .1 .1 .0) (s .three .last .1 .1 .1 .1 .1 .0) (omega (arith, item-in t k .1)) (λ x p. (p .0, p .1 ∙ item-job t (c .before .before .before .before .before .before .before .before .before .before) .1)) (s .three .ensures)
+    let c6 = c .before .before .before .before .before .before in
+    let c10 = c6 .before .before .before .before in
+    let c11 = c10 .before in
+    let k = c11 in
+    let s = c6 in
+    to-more (Stays (k .before .named .given .0 .0)) (Stays (k .before .before .before .before .before .before .before .before .before .before .before .before .before .before .before .before .before .args .state)) (k .before .before .before .before .before .before .before .before .before .before .before .before .before .before .before .before .before .args .file .now) (k .before .named .given .0 .1 .0) (k .before .before .before .before .before .before .before .before .before .before .before .before .before .before .before .before .before .args .at) (s .three .result) (s .three .last .1 .1 .1 .0) (s .three .last .1 .1 .1 .1 .0) (s .three .last .1 .1 .1 .1 .1 .0) (omega (arith, item-in t k .1)) (λ x p. (p .0, p .1 ∙ item-job t (c10) .1)) (s .three .ensures)
 
 item-step-requires-2 : (t : ℕ) → item-lts.Need-step-requires-2 (
   step-reads.Asked,
@@ -464,7 +544,9 @@ item-step-requires-2 : (t : ℕ) → item-lts.Need-step-requires-2 (
   group-below t,
   group.Post,
 ) (item-at t) item.Post
-item-step-requires-2 t c κs = item-in t (c .before .before .before .before .before) .0
+item-step-requires-2 t c κs =
+    let c5 = c .before .before .before .before .before in
+    item-in t (c5) .0
 
 item-enum-known-begun : (t : ℕ) → item-lts.Need-enum-known-begun (
   step-reads.Asked,
@@ -494,7 +576,10 @@ item-same-length-7 : (t : ℕ) → item-lts.Need-same-length-7 (
   group-below t,
   group.Post,
 ) (item-at t) item.Post
-item-same-length-7 t c = c .before .before .before .before .before .before .before .before .step2 .kept .1 .1 .1 .0 ∙ item-kept t (c .before .before .before .before .before .before .before .before .before .before .before .before .before .before) .same-work
+item-same-length-7 t c =
+    let c8 = c .before .before .before .before .before .before .before .before in
+    let c14 = c8 .before .before .before .before .before .before in
+    c8 .step2 .kept .1 .1 .1 .0 ∙ item-kept t (c14) .same-work
 
 item-same-length-8 : (t : ℕ) → item-lts.Need-same-length-8 (
   step-reads.Asked,
@@ -504,7 +589,10 @@ item-same-length-8 : (t : ℕ) → item-lts.Need-same-length-8 (
   group-below t,
   group.Post,
 ) (item-at t) item.Post
-item-same-length-8 t c = c .before .before .before .before .before .before .before .before .step2 .kept .1 .1 .1 .1 .0 ∙ item-kept t (c .before .before .before .before .before .before .before .before .before .before .before .before .before .before) .same-due
+item-same-length-8 t c =
+    let c8 = c .before .before .before .before .before .before .before .before in
+    let c14 = c8 .before .before .before .before .before .before in
+    c8 .step2 .kept .1 .1 .1 .1 .0 ∙ item-kept t (c14) .same-due
 
 item-same-length-9 : (t : ℕ) → item-lts.Need-same-length-9 (
   step-reads.Asked,
@@ -514,7 +602,10 @@ item-same-length-9 : (t : ℕ) → item-lts.Need-same-length-9 (
   group-below t,
   group.Post,
 ) (item-at t) item.Post
-item-same-length-9 t c = c .before .before .before .before .before .before .before .before .step2 .kept .1 .1 .1 .1 .1 .0 ∙ item-kept t (c .before .before .before .before .before .before .before .before .before .before .before .before .before .before) .same-least
+item-same-length-9 t c =
+    let c8 = c .before .before .before .before .before .before .before .before in
+    let c14 = c8 .before .before .before .before .before .before in
+    c8 .step2 .kept .1 .1 .1 .1 .1 .0 ∙ item-kept t (c14) .same-least
 
 item-returns-3 : (t : ℕ) → item-lts.Need-returns-3 (
   step-reads.Asked,
@@ -525,8 +616,10 @@ item-returns-3 : (t : ℕ) → item-lts.Need-returns-3 (
   group.Post,
 ) (item-at t) item.Post
 item-returns-3 t c =
-    let k = c .before .before .before .before .before .before .before .before .before .before .before .before .before .before in
-    let s = c .before .before .before .before .before .before .before .before in
+    let c8 = c .before .before .before .before .before .before .before .before in
+    let c14 = c8 .before .before .before .before .before .before in
+    let k = c14 in
+    let s = c8 in
     off-to (λ x. Moved (k .before .named .given .0 .0 .wanted) (k .before .named .given .0 .0 .level) (x .wanted) (x .level)) (Stays (k .before .before .before .before .before .before .before .before .before .before .before .before .before .before .before .before .before .args .state)) (k .before .before .before .before .before .before .before .before .before .before .before .before .before .before .before .before .before .args .file .now) (k .before .named .given .0 .1 .0) (k .before .before .before .before .before .before .before .before .before .before .before .before .before .before .before .before .before .args .at) (s .step2 .result) _ (s .step2 .last .1 .1 .1 .0) (s .step2 .last .1 .1 .1 .1 .0) (s .step2 .last .1 .1 .1 .1 .1 .0) (c .enum-told3 .given .1) (s .step2 .ensures)
 
 item-sub-group : (t : ℕ) → item-lts.Need-sub-group (
@@ -537,7 +630,9 @@ item-sub-group : (t : ℕ) → item-lts.Need-sub-group (
   group-below t,
   group.Post,
 ) (item-at t) item.Post
-item-sub-group t c = omega (arith, item-group t c .1, c .before .before .before .before .before .before .before .before .before .before .before .before .before .before .before .before .before .before .before .before .before .before .before .before .before .before .before .before .before .before .before .before .pre .1 .2)
+item-sub-group t c =
+    let c32 = c .before .before .before .before .before .before .before .before .before .before .before .before .before .before .before .before .before .before .before .before .before .before .before .before .before .before .before .before .before .before .before .before in
+    omega (arith, item-group t c .1, c32 .pre .1 .2)
 
 item-group-requires : (t : ℕ) → item-lts.Need-group-requires (
   step-reads.Asked,
@@ -548,7 +643,8 @@ item-group-requires : (t : ℕ) → item-lts.Need-group-requires (
   group.Post,
 ) (item-at t) item.Post
 item-group-requires t c κs =
-    let k = c .before .before .before in
+    let c3 = c .before .before .before in
+    let k = c3 in
     let g = item-group t k in
     let d = item-deeper t k in
     (omega (arith, k .before .before .before .before .before .before .before .before .before .before .before .before .before .before .before .before .before .before .before .before .before .before .before .before .before .before .before .before .before .before .before .before .pre .0, k .before .before .before .before .before .before .before .before .before .before .before .before .before .before .before .before .before .before .before .before .before .before .before .before .before .before .before .before .before .before .before .before .pre .1 .2, g .1), (d .0, g .2 .0, omega (arith, g .2 .1, g .0, g .1, k .before .before .before .before .before .before .before .before .before .before .before .before .before .before .before .before .before .before .before .before .before .before .before .before .before .before .before .before .before .before .before .before .pre .1 .2)))
@@ -561,7 +657,10 @@ item-same-length-10 : (t : ℕ) → item-lts.Need-same-length-10 (
   group-below t,
   group.Post,
 ) (item-at t) item.Post
-item-same-length-10 t c = c .before .before .before .before .before .before .group .kept .1 .1 .1 .1 .0 ∙ item-kept-2 t (c .before .before .before .before .before .before .before .before .before .before) .same-work
+item-same-length-10 t c =
+    let c6 = c .before .before .before .before .before .before in
+    let c10 = c6 .before .before .before .before in
+    c6 .group .kept .1 .1 .1 .1 .0 ∙ item-kept-2 t (c10) .same-work
 
 item-same-length-11 : (t : ℕ) → item-lts.Need-same-length-11 (
   step-reads.Asked,
@@ -571,7 +670,10 @@ item-same-length-11 : (t : ℕ) → item-lts.Need-same-length-11 (
   group-below t,
   group.Post,
 ) (item-at t) item.Post
-item-same-length-11 t c = c .before .before .before .before .before .before .group .kept .1 .1 .1 .1 .1 .0 ∙ item-kept-2 t (c .before .before .before .before .before .before .before .before .before .before) .same-due
+item-same-length-11 t c =
+    let c6 = c .before .before .before .before .before .before in
+    let c10 = c6 .before .before .before .before in
+    c6 .group .kept .1 .1 .1 .1 .1 .0 ∙ item-kept-2 t (c10) .same-due
 
 item-same-length-12 : (t : ℕ) → item-lts.Need-same-length-12 (
   step-reads.Asked,
@@ -581,7 +683,10 @@ item-same-length-12 : (t : ℕ) → item-lts.Need-same-length-12 (
   group-below t,
   group.Post,
 ) (item-at t) item.Post
-item-same-length-12 t c = c .before .before .before .before .before .before .group .kept .1 .1 .1 .1 .1 .1 .0 ∙ item-kept-2 t (c .before .before .before .before .before .before .before .before .before .before) .same-least
+item-same-length-12 t c =
+    let c6 = c .before .before .before .before .before .before in
+    let c10 = c6 .before .before .before .before in
+    c6 .group .kept .1 .1 .1 .1 .1 .1 .0 ∙ item-kept-2 t (c10) .same-least
 
 item-returns-4 : (t : ℕ) → item-lts.Need-returns-4 (
   step-reads.Asked,
@@ -592,9 +697,11 @@ item-returns-4 : (t : ℕ) → item-lts.Need-returns-4 (
   group.Post,
 ) (item-at t) item.Post
 item-returns-4 t c =
-    let k = c .before .before .before .before .before .before .before .before .before .before in
+    let c6 = c .before .before .before .before .before .before in
+    let c10 = c6 .before .before .before .before in
+    let k = c10 in
     let a = k .before .before .before .before .before .before .before .before .before .before .before .before .before .before .before .before .before .before .before .before .before .before .before .before .before .before .before .before .before .before .before .before in
-    let s = c .before .before .before .before .before .before in
+    let s = c6 in
     let g = item-group t k in
     to-more (λ x. Closes (k .before .begun .given .0 .0 .level) (x .wanted) (x .level)) (Stays (a .args .state)) (a .args .file .now) (k .before .begun .given .0 .1 .0) (a .args .at) (s .group .result) (s .group .last .1 .1 .1 .1 .0) (s .group .last .1 .1 .1 .1 .1 .0) (s .group .last .1 .1 .1 .1 .1 .1 .0) (omega (arith, item-in t (k .before .before .before .before .before .before .before .before .before .before .before .before .before .before .before) .1, item-deeper t k .1)) (λ x p. group-left (k .before .begun .given .0 .0 .level) (x .level) (x .wanted) (a .args .state .level) (g .2 .1 ∙ ap (λ (n : ℕ). n + 1) (g .0)) p) (s .group .ensures)
 

@@ -21,13 +21,22 @@ enum-known-turn-2 : tie.Need-enum-known-turn-2
 enum-known-turn-2 c = search needs
 
 act-on-requires : tie.Need-act-on-requires
-act-on-requires c κs = stands-bounded (c .before .before .before .before .before .before .before .before .before .before .before .before .args .file .now) (c .before .before .before .before .before .before .before .before .before .before .before .before .args .at) (c .before .before .before .before .before .before .before .before .before .before .before .before .args .state) (c .before .before .before .before .before .before .before .before .before .before .before .before .args .work .now) (c .before .before .before .before .before .before .before .before .before .before .before .before .args .due .now) (c .before .before .before .before .before .before .before .before .before .before .before .before .args .least .now) (c .before .before .before .before .before .before .before .before .before .before .before .before .pre .stands)
+act-on-requires c κs =
+    let c12 = c .before .before .before .before .before .before .before .before .before .before .before .before in
+    stands-bounded (c12 .args .file .now) (c12 .args .at) (c12 .args .state) (c12 .args .work .now) (c12 .args .due .now) (c12 .args .least .now) (c12 .pre .stands)
 
 returns : tie.Need-returns
-returns c = stands-stop (c .before .before .before .before .before .before .before .before .before .args .file .now) (c .before .before .before .before .before .before .before .before .before .args .at) (c .before .before .before .before .before .before .before .before .before .args .state) (c .before .before .before .before .before .before .before .before .before .args .work .now) (c .before .before .before .before .before .before .before .before .before .args .due .now) (c .before .before .before .before .before .before .before .before .before .args .least .now) (c .before .before .before .before .before .before .before .before .before .pre .stands) (c .before .before .before .before .next-token .result) (c .before .before .before .before .next-token .ensures) (c .before .before .before .decide .result) (c .before .before .before .decide .ensures) (c .before .turn .given .0 .0) (c .before .turn .given .0 .1 .0) (c .before .before .before .before .before .before .before .before .before .args .work .now) (c .before .before .before .before .before .before .before .before .before .args .due .now) (c .before .turn .given .1)
+returns c =
+    let c3 = c .before .before .before in
+    let c4 = c3 .before in
+    let c9 = c4 .before .before .before .before .before in
+    stands-stop (c9 .args .file .now) (c9 .args .at) (c9 .args .state) (c9 .args .work .now) (c9 .args .due .now) (c9 .args .least .now) (c9 .pre .stands) (c4 .next-token .result) (c4 .next-token .ensures) (c3 .decide .result) (c3 .decide .ensures) (c .before .turn .given .0 .0) (c .before .turn .given .0 .1 .0) (c9 .args .work .now) (c9 .args .due .now) (c .before .turn .given .1)
 
 returns-2 : tie.Need-returns-2
-returns-2 c = stands-done (c .before .before .before .before .before .before .before .before .args .file .now) (c .before .before .before .before .before .before .before .before .args .at) (c .before .before .before .before .before .before .before .before .args .state) (c .before .before .before .before .before .before .before .before .args .work .now) (c .before .before .before .before .before .before .before .before .args .due .now) (c .before .before .before .before .before .before .before .before .args .least .now) (c .before .before .before .before .before .before .before .before .pre .stands) (c .before .before .before .next-token .result) (c .before .before .before .next-token .ensures) (c .before .before .decide .result) (c .before .before .decide .ensures) (c .enum-told .given .1)
+returns-2 c =
+    let c3 = c .before .before .before in
+    let c8 = c3 .before .before .before .before .before in
+    stands-done (c8 .args .file .now) (c8 .args .at) (c8 .args .state) (c8 .args .work .now) (c8 .args .due .now) (c8 .args .least .now) (c8 .pre .stands) (c3 .next-token .result) (c3 .next-token .ensures) (c .before .before .decide .result) (c .before .before .decide .ensures) (c .enum-told .given .1)
 
 same-length : tie.Need-same-length
 same-length c = search needs
@@ -39,7 +48,13 @@ same-length-3 : tie.Need-same-length-3
 same-length-3 c = search needs
 
 returns-3 : tie.Need-returns-3
-returns-3 c = step-on (c .before .before .before .before .before .before .before .before .before .before .before .before .before .before .before .before .before .before .before .args .file .now) (c .before .before .before .before .before .before .before .before .before .before .before .before .before .before .before .before .before .before .before .args .at) (c .before .before .before .before .before .before .before .before .before .before .before .before .before .before .before .before .before .before .before .args .state) (c .before .before .before .before .before .before .before .before .before .before .before .before .before .before .before .before .before .before .before .args .work .now) (c .before .before .before .before .before .before .before .before .before .before .before .before .before .before .before .before .before .before .before .args .due .now) (c .before .before .before .before .before .before .before .before .before .before .before .before .before .before .before .before .before .before .before .args .least .now) (c .before .before .before .before .before .before .before .before .before .before .before .before .before .before .before .before .before .before .before .pre) (c .before .before .before .before .before .before .before .before .before .before .before .before .before .before .next-token .result) (c .before .before .before .before .before .before .before .before .before .before .before .before .before .before .next-token .ensures) (c .before .before .before .before .before .before .before .before .before .before .before .before .before .decide .result) (c .before .before .before .before .before .before .before .before .before .before .before .before .before .decide .ensures) (c .before .before .before .before .before .before .before .before .before .before .before .turn2 .given .0 .0) (c .before .before .before .before .before .before .before .before .before .before .before .turn2 .given .1) (c .before .before .before .before .before .before .act-on .result) (c .before .before .before .before .before .before .act-on .last .1 .1 .0) (c .before .before .before .before .before .before .act-on .last .1 .1 .1 .0) (c .before .before .before .before .before .before .act-on .last .1 .1 .1 .1 .0) (c .before .before .before .before .before .before .act-on .ensures)
+returns-3 c =
+    let c6 = c .before .before .before .before .before .before in
+    let c11 = c6 .before .before .before .before .before in
+    let c13 = c11 .before .before in
+    let c14 = c13 .before in
+    let c19 = c14 .before .before .before .before .before in
+    step-on (c19 .args .file .now) (c19 .args .at) (c19 .args .state) (c19 .args .work .now) (c19 .args .due .now) (c19 .args .least .now) (c19 .pre) (c14 .next-token .result) (c14 .next-token .ensures) (c13 .decide .result) (c13 .decide .ensures) (c11 .turn2 .given .0 .0) (c11 .turn2 .given .1) (c6 .act-on .result) (c6 .act-on .last .1 .1 .0) (c6 .act-on .last .1 .1 .1 .0) (c6 .act-on .last .1 .1 .1 .1 .0) (c6 .act-on .ensures)
 
 pub step-spec : {M : Type 1} → statement M
 step-spec =

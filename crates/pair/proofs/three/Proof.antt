@@ -21,10 +21,14 @@ abbrev μ-loop : tie.MeasureT-loop
 μ-loop file at work₀ due₀ least₀ from₀ here₀ left₀ work due least from here left = left
 
 loop-holds : tie.Need-loop-holds Inv-loop μ-loop
-loop-holds c = (c .before .before .before .before .pre .0, record { same-work = refl; same-due = refl; same-least = refl }, c .before .before .before .before .pre .1, refl, omega arith, omega arith)
+loop-holds c =
+    let c4 = c .before .before .before .before in
+    (c4 .pre .0, record { same-work = refl; same-due = refl; same-least = refl }, c4 .pre .1, refl, omega arith, omega arith)
 
 step-requires : tie.Need-step-requires Inv-loop μ-loop
-step-requires c κs = c .before .before .before .before .loop .inv .0
+step-requires c κs =
+    let c4 = c .before .before .before .before in
+    c4 .loop .inv .0
 
 enum-known-reached : tie.Need-enum-known-reached Inv-loop μ-loop
 enum-known-reached c = search needs
@@ -33,31 +37,52 @@ enum-told : tie.Need-enum-told Inv-loop μ-loop
 enum-told c = search needs
 
 same-length : tie.Need-same-length Inv-loop μ-loop
-same-length c = c .before .before .before .before .before .before .before .before .step .kept .1 .1 .1 .0 ∙ c .before .before .before .before .before .before .before .before .before .before .before .before .before .loop .inv .1 .same-work
+same-length c =
+    let c8 = c .before .before .before .before .before .before .before .before in
+    let c13 = c8 .before .before .before .before .before in
+    c8 .step .kept .1 .1 .1 .0 ∙ c13 .loop .inv .1 .same-work
 
 same-length-2 : tie.Need-same-length-2 Inv-loop μ-loop
-same-length-2 c = c .before .before .before .before .before .before .before .before .step .kept .1 .1 .1 .1 .0 ∙ c .before .before .before .before .before .before .before .before .before .before .before .before .before .loop .inv .1 .same-due
+same-length-2 c =
+    let c8 = c .before .before .before .before .before .before .before .before in
+    let c13 = c8 .before .before .before .before .before in
+    c8 .step .kept .1 .1 .1 .1 .0 ∙ c13 .loop .inv .1 .same-due
 
 same-length-3 : tie.Need-same-length-3 Inv-loop μ-loop
-same-length-3 c = c .before .before .before .before .before .before .before .before .step .kept .1 .1 .1 .1 .1 .0 ∙ c .before .before .before .before .before .before .before .before .before .before .before .before .before .loop .inv .1 .same-least
+same-length-3 c =
+    let c8 = c .before .before .before .before .before .before .before .before in
+    let c13 = c8 .before .before .before .before .before in
+    c8 .step .kept .1 .1 .1 .1 .1 .0 ∙ c13 .loop .inv .1 .same-least
 
 returns : tie.Need-returns Inv-loop μ-loop
-returns c = off-to (λ x. Moved (c .before .before .before .before .before .before .before .before .before .before .before .before .before .loop .here .wanted) (c .before .before .before .before .before .before .before .before .before .before .before .before .before .loop .here .level) (x .wanted) (x .level)) (Stays (c .before .before .before .before .before .before .before .before .before .before .before .before .before .before .before .before .before .before .args .state)) (c .before .before .before .before .before .before .before .before .before .before .before .before .before .before .before .before .before .before .args .file .now) (c .before .before .before .before .before .before .before .before .before .before .before .before .before .loop .from) (c .before .before .before .before .before .before .before .before .before .before .before .before .before .before .before .before .before .before .args .at) (c .before .before .before .before .before .before .before .before .step .result) _ (c .before .before .before .before .before .before .before .before .step .last .1 .1 .1 .0) (c .before .before .before .before .before .before .before .before .step .last .1 .1 .1 .1 .0) (c .before .before .before .before .before .before .before .before .step .last .1 .1 .1 .1 .1 .0) (c .enum-told .given .1) (c .before .before .before .before .before .before .before .before .step .ensures)
+returns c =
+    let c8 = c .before .before .before .before .before .before .before .before in
+    let c13 = c8 .before .before .before .before .before in
+    let c18 = c13 .before .before .before .before .before in
+    off-to (λ x. Moved (c13 .loop .here .wanted) (c13 .loop .here .level) (x .wanted) (x .level)) (Stays (c18 .args .state)) (c18 .args .file .now) (c13 .loop .from) (c18 .args .at) (c8 .step .result) _ (c8 .step .last .1 .1 .1 .0) (c8 .step .last .1 .1 .1 .1 .0) (c8 .step .last .1 .1 .1 .1 .1 .0) (c .enum-told .given .1) (c8 .step .ensures)
 
 sub-left : tie.Need-sub-left Inv-loop μ-loop
-sub-left c = c .before .before .before .before .before .before .before .before .before .before .before .before .before .loop-test .taken
+sub-left c =
+    let c13 = c .before .before .before .before .before .before .before .before .before .before .before .before .before in
+    c13 .loop-test .taken
 
 loop-less : tie.Need-loop-less Inv-loop μ-loop
-loop-less c = omega (arith, c .before .before .before .before .before .before .before .before .before .before .before .before .before .loop-test .taken)
+loop-less c =
+    let c13 = c .before .before .before .before .before .before .before .before .before .before .before .before .before in
+    omega (arith, c13 .loop-test .taken)
 
 loop-again : tie.Need-loop-again Inv-loop μ-loop
 loop-again c =
-    let l = c .before .before .before .before .before .before .before .before .before .before .before .before .before .before in
-    let s = c .before .before .before .before .before .before .before .before .before in
+    let c9 = c .before .before .before .before .before .before .before .before .before in
+    let c13 = c9 .before .before .before .before in
+    let c14 = c13 .before in
+    let c19 = c14 .before .before .before .before .before in
+    let l = c14 in
+    let s = c9 in
     let k : Kept (l .loop .work) (l .loop .due) (l .loop .least) (s .step .last .1 .1 .1 .0) (s .step .last .1 .1 .1 .1 .0) (s .step .last .1 .1 .1 .1 .1 .0) = record { same-work = s .step .kept .1 .1 .1 .0; same-due = s .step .kept .1 .1 .1 .1 .0; same-least = s .step .kept .1 .1 .1 .1 .1 .0 } in
-    let o = reached-on (λ x. Moved (l .loop .here .wanted) (l .loop .here .level) (x .wanted) (x .level)) (c .before .before .before .before .before .before .before .before .before .before .before .before .before .before .before .before .before .before .before .args .file .now) (l .loop .from) (c .before .reached .given .0 .1 .0) (l .loop .here) (c .before .reached .given .0 .0) _ _ _ (s .step .last .1 .1 .1 .0) (s .step .last .1 .1 .1 .1 .0) (s .step .last .1 .1 .1 .1 .1 .0) (s .step .result) (l .loop .inv .0) k (c .before .reached .given .1) (s .step .ensures) in
-    let m = togo-less (l .loop .here) (c .before .reached .given .0 .0) (l .loop .left) (l .loop .inv .2) (c .before .before .before .before .before .before .before .before .before .before .before .before .before .loop-test .taken) (l .loop .inv .4) (o .2) in
-    (o .0, kept-on _ _ _ _ _ _ _ _ _ (l .loop .inv .1) k, m .0, m .1 ∙ l .loop .inv .3, omega (arith, l .loop .inv .4), omega (arith, o .1, l .loop .inv .5, c .before .before .before .before .before .before .before .before .before .before .before .before .before .loop-test .taken))
+    let o = reached-on (λ x. Moved (l .loop .here .wanted) (l .loop .here .level) (x .wanted) (x .level)) (c19 .args .file .now) (l .loop .from) (c .before .reached .given .0 .1 .0) (l .loop .here) (c .before .reached .given .0 .0) _ _ _ (s .step .last .1 .1 .1 .0) (s .step .last .1 .1 .1 .1 .0) (s .step .last .1 .1 .1 .1 .1 .0) (s .step .result) (l .loop .inv .0) k (c .before .reached .given .1) (s .step .ensures) in
+    let m = togo-less (l .loop .here) (c .before .reached .given .0 .0) (l .loop .left) (l .loop .inv .2) (c13 .loop-test .taken) (l .loop .inv .4) (o .2) in
+    (o .0, kept-on _ _ _ _ _ _ _ _ _ (l .loop .inv .1) k, m .0, m .1 ∙ l .loop .inv .3, omega (arith, l .loop .inv .4), omega (arith, o .1, l .loop .inv .5, c13 .loop-test .taken))
 
 same-length-4 : tie.Need-same-length-4 Inv-loop μ-loop
 same-length-4 c = c .before .loop .inv .1 .same-work
