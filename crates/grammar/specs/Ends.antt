@@ -1,7 +1,7 @@
 -- Laws of the whole answer: what each way out of the reader says and leaves in the buffers.
 use mathlib.Core.Path.{_≡_, refl, sym, ap, subst, _∙_}
-use mathlib.Core.Bool.{Bool, true, false, _||_}
-use mathlib.Core.List.{List, [], _∷_, _++_}
+use mathlib.Core.Bool.{false, _||_}
+use mathlib.Core.List.{List, _++_}
 use Prim.Native.Nat.{ℕ, _-_, _≤_, _<_, min}
 use native.Mathlib.Decide.{decLe}
 use native.Mathlib.Nat.{sub-zero}
@@ -13,7 +13,7 @@ use borrow.Author.Tests.{lt-ltb, le-ltb}
 use Rattle.rules.specs.declared.Refusal.{Refusal}
 use Rattle.rules.specs.declared.Refusal.the-variants.{ShortBuffer, LongFile}
 use Rattle.rules.specs.declared.OrderRead.{OrderRead}
-use Rattle.rules.specs.Basics.{pick, zeros, mostJobs, mostBytes}
+use Rattle.rules.specs.Basics.{zeros, mostJobs, mostBytes}
 use Rattle.rules.specs.Refusals.{numberOf}
 use Rattle.rules.specs.Orders.{Outcome, refused, accepted, ReadAnswer, refusedRead, afterReading, readAnswer, orderOf}
 use Rattle.laws.specs.Tests.{pick-yes, pick-no, or-left, or-right, or-no}

@@ -1,34 +1,27 @@
 -- Laws of the definition's steps and of what the lists hold, for the proofs to cite.
 use mathlib.Core.Path.{_≡_, refl, sym, ap, subst, _∙_}
-use mathlib.Core.Bool.{Bool, true, false, true≢false, false≢true}
+use mathlib.Core.Bool.{Bool, true, false, true≢false}
 use mathlib.Core.List.{List, [], _∷_, _++_, append-assoc}
-use mathlib.Core.Logic.{_⊎_, inl, inr}
-use Prim.Native.Nat.{ℕ, zero, suc, _+_, _-_, _≤_, _<_, min}
+use Prim.Native.Nat.{ℕ, suc, _+_, _-_, _≤_, _<_, min}
 use native.Mathlib.Numerals.{add-one}
 use native.Mathlib.Omega.{arith}
-use lib.ListN.{length, take, drop, getD, set, replicate, length-append, length-take, length-drop, length-set, length-replicate, replicate-append-replicate}
-use lib.Seq.{take-suc, take-suc-set, take-set-le, take-all, length-take-le, getD-set-same, getD-set-other}
-use lib.Dec.{leb, ltb, eqb}
-use borrow.Author.Tests.{lt-ltb, le-ltb, le-leb, lt-leb, eq-eqb, ne-eqb, ltb-true, leb-true, eqb-true}
+use lib.ListN.{length, take, getD, set, length-append, replicate-append-replicate}
+use lib.Seq.{take-suc-set, take-all, getD-set-same, getD-set-other}
+use lib.Dec.{leb, eqb}
+use borrow.Author.Tests.{eq-eqb, ne-eqb}
 use Rattle.rules.specs.declared.Word.{Word}
 use Rattle.rules.specs.declared.Word.the-variants.{Order, Group, Job, Number, Other}
 use Rattle.rules.specs.declared.Token.{Token}
 use Rattle.rules.specs.declared.Token.the-variants.{Open, Close, Atom, End, Foreign}
 use Rattle.rules.specs.declared.Wanted.{Wanted}
-use Rattle.rules.specs.declared.Wanted.the-variants.{OrderOpen, OrderWord, Boards, ItemOrClose, ItemWord, GroupDue, JobWork, JobDue, JobClose, Finish}
-use Rattle.rules.specs.declared.Refusal.{Refusal}
-use Rattle.rules.specs.declared.Refusal.the-variants.{ForeignByte, NotAllowed, Unclosed, NoNumber, AboveLimit, TooDeep, TooManyJobs, NoJob}
-use Rattle.rules.specs.Basics.{pick, isEmpty, zeros, mostBoards, mostMinutes, mostJobs, mostLevels}
-use Rattle.rules.specs.Tokens.{Placed, tokens, tokensFrom, closing, between, isLetterOrDigit, isBlank}
-use Rattle.rules.specs.Orders.{Reading, Step, go, stop, done, Outcome, refused, accepted, leastDue, upTo, atomNumber, number, atomWord, word, bracket, ending, leave, want, stepAt, after, reads, start, orderOf}
+use Rattle.rules.specs.declared.Wanted.the-variants.{Boards, ItemOrClose, GroupDue, JobWork, JobDue, JobClose, Finish}
+use Rattle.rules.specs.declared.Refusal.the-variants.{NoNumber, AboveLimit}
+use Rattle.rules.specs.Basics.{pick, isEmpty, zeros, mostJobs}
+use Rattle.rules.specs.Orders.{Reading, Step, go, stop, leastDue, upTo, atomNumber, number, word, leave}
 use Rattle.laws.specs.Tests.{pick-yes, pick-no}
-use Rattle.lexer.specs.Scan.{tokensAt, isLast, behind, placed, NextToken}
 use Rattle.grammar.specs.declared.State.{State}
-use Rattle.grammar.specs.declared.Act.{Act}
-use Rattle.grammar.specs.declared.Act.the-variants.{Want, Take, Leave}
-use Rattle.grammar.specs.declared.Turn.{Turn}
-use Rattle.grammar.specs.declared.Turn.the-variants.{Go, Stop, Done}
-use Rattle.grammar.specs.Turns.{misplacedAs, taken, left, acted, meant, capped, Held, Holds, deepest, fullest, half, Sound, Finished}
+use Rattle.grammar.specs.declared.Act.the-variants.{Want, Take}
+use Rattle.grammar.specs.Turns.{misplacedAs, taken, left, acted, capped, Held, Holds, deepest, fullest, half, Sound}
 
 -- ---- where a number or a word is wanted
 unfoldable pub isAtom : Token → Bool

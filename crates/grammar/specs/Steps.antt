@@ -3,9 +3,9 @@ use mathlib.Core.Path.{_≡_, refl, sym, ap, subst, _∙_}
 use mathlib.Core.Bool.{Bool, true, false, true≢false, false≢true}
 use mathlib.Core.List.{List, [], _∷_, _++_}
 use mathlib.Core.Logic.{_⊎_, inl, inr}
-use Prim.Native.Nat.{ℕ, zero, suc, _+_, _-_, _≤_, _<_}
+use Prim.Native.Nat.{ℕ, suc, _+_, _≤_, _<_}
 use native.Mathlib.Omega.{arith}
-use lib.ListN.{length, take, drop, length-append}
+use lib.ListN.{length, take, length-append}
 use lib.Dec.{leb, ltb, eqb, lit≤}
 use borrow.Author.Tests.{ltb-true}
 use Rattle.rules.specs.declared.Word.{Word}
@@ -15,19 +15,19 @@ use Rattle.rules.specs.declared.Token.the-variants.{Open, Close, Atom, End, For
 use Rattle.rules.specs.declared.Wanted.{Wanted}
 use Rattle.rules.specs.declared.Wanted.the-variants.{OrderOpen, OrderWord, Boards, ItemOrClose, ItemWord, GroupDue, JobWork, JobDue, JobClose, Finish}
 use Rattle.rules.specs.declared.Refusal.{Refusal}
-use Rattle.rules.specs.declared.Refusal.the-variants.{NotAllowed, AboveLimit, TooDeep, TooManyJobs, NoJob}
+use Rattle.rules.specs.declared.Refusal.the-variants.{AboveLimit}
 use Rattle.rules.specs.Basics.{pick, isEmpty, mostBoards, mostMinutes, mostJobs, mostLevels}
 use Rattle.rules.specs.Tokens.{Placed, tokens, tokensFrom, closing, between, isLetterOrDigit, isBlank}
-use Rattle.rules.specs.Orders.{Reading, Step, go, stop, done, Outcome, refused, accepted, leastDue, upTo, atomNumber, number, atomWord, word, bracket, ending, leave, want, stepAt, after, reads, start, orderOf}
+use Rattle.rules.specs.Orders.{Reading, Step, go, stop, done, Outcome, accepted, leastDue, upTo, atomNumber, number, atomWord, word, bracket, ending, leave, want, stepAt, after, reads, start, orderOf}
 use Rattle.laws.specs.Tests.{decided}
-use Rattle.lexer.specs.Scan.{tokensAt, isLast, behind, placed, NextToken}
+use Rattle.lexer.specs.Scan.{tokensAt, isLast, behind, NextToken}
 use Rattle.lexer.specs.declared.Seen.{Seen}
 use Rattle.grammar.specs.declared.State.{State}
 use Rattle.grammar.specs.declared.Act.{Act}
 use Rattle.grammar.specs.declared.Turn.{Turn}
 use Rattle.grammar.specs.declared.Turn.the-variants.{Go, Stop, Done}
 use Rattle.grammar.specs.declared.Ended.the-variants.{Refused, Accepted}
-use Rattle.grammar.specs.Turns.{acted, meant, Held, Holds, deepest, fullest, half, Sound, Decides, Acts, Bounded, Finished, Stands}
+use Rattle.grammar.specs.Turns.{acted, meant, deepest, fullest, half, Sound, Decides, Acts, Bounded, Finished, Stands}
 
 -- ---- a fact of a step, from the same fact of the steps that it chooses from
 pub pick-all : {A : Type 0} (P : A → Type 0) (b : Bool) (x y : A) → (b ≡ true → P x) → (b ≡ false → P y) → P (pick b x y)

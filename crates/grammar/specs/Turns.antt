@@ -1,9 +1,9 @@
 -- What the reader's state and turns mean in the definition's terms.
 use mathlib.Core.Path.{_≡_}
 use mathlib.Core.List.{List, [], _∷_, _++_}
-use Prim.Native.Nat.{ℕ, suc, _+_, _-_, _≤_, _<_, min}
-use lib.ListN.{length, take, drop, getD}
-use lib.Dec.{eqb, ltb}
+use Prim.Native.Nat.{ℕ, _+_, _-_, _≤_, min}
+use lib.ListN.{length, take, getD}
+use lib.Dec.{eqb}
 use Rattle.rules.specs.declared.Token.{Token}
 use Rattle.rules.specs.declared.Token.the-variants.{Open, Close, Atom, End, Foreign}
 use Rattle.rules.specs.declared.Wanted.{Wanted}

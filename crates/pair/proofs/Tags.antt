@@ -1,7 +1,6 @@
 -- What the tag of a thing wanted tells, where a `let .. else` leaves the other cases.
 use mathlib.Core.Path.{_≡_, subst}
-use mathlib.Core.List.{List, [], _∷_}
-use Prim.Native.Nat.{ℕ}
+use mathlib.Core.List.{[], _∷_}
 use denote.Enum.Declared.{tagOf}
 use types.Run.{OneOf, miss}
 use Rattle.rules.specs.declared.Wanted.{Wanted}

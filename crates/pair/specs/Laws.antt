@@ -18,13 +18,13 @@ use Rattle.lexer.specs.declared.Seen.{Seen}
 use Rattle.grammar.specs.declared.State.{State}
 use Rattle.grammar.specs.declared.Act.{Act}
 use Rattle.grammar.specs.declared.Turn.{Turn}
-use Rattle.grammar.specs.declared.Turn.the-variants.{Go, Stop, Done}
+use Rattle.grammar.specs.declared.Turn.the-variants.{Go}
 use Rattle.grammar.specs.declared.Ended.{Ended}
 use Rattle.grammar.specs.Turns.{acted, Holds, Decides, Acts, Finished, Stands}
 use Rattle.grammar.specs.Steps.{pick-all, bracket-all, word-all, number-all, ending-all, goes, moves-on, stands-on, stands-start}
 use Rattle.pair.specs.declared.Reached.{Reached}
 use Rattle.pair.specs.declared.Reached.the-variants.{On, Off}
-use Rattle.pair.specs.Moves.{Ready, Kept, Closes, Moved, Stays, Nowhere, togo, To}
+use Rattle.pair.specs.Moves.{Ready, Kept, Closes, Moved, Nowhere, togo, To}
 
 -- ---- where a step of the definition leads
 abbrev Leads : Wanted → Reading → Step → Type 0

@@ -1,9 +1,8 @@
 -- Each arm says which act it is, and what it leaves holds the reading that the act makes.
 use Rattle.grammar.specs.Laws.{holds-want}
-use Rattle.grammar.specs.Turns.{acted, left, Holds}
+use Rattle.grammar.specs.Turns.{acted, Holds}
 use Rattle.grammar.specs.declared.Act.{Act}
-use Rattle.rules.specs.Orders.{Reading}
-use mathlib.Core.Path.{_≡_, sym, subst}
+use mathlib.Core.Path.{sym, subst}
 use borrow.Author.Needs.{needs}
 use Rattle.grammar.proofs.act_on.Statement.{statement}
 use Rattle.grammar.proofs.act_on.Tie as tie

@@ -11,9 +11,9 @@ use mathlib.Core.Path.{refl}
 use mathlib.Core.Bool.{Bool}
 use Prim.Native.Nat.{ℕ}
 use Rattle.grammar.specs.Turns.{meant, acted, taken}
-use Rattle.rules.specs.Orders.{Reading, stepAt, want}
+use Rattle.rules.specs.Orders.{stepAt, want}
 use Rattle.rules.specs.declared.Wanted.{Wanted}
-use mathlib.Core.Path.{_≡_, sym, ap, _∙_}
+use mathlib.Core.Path.{sym, ap, _∙_}
 use borrow.Author.Needs.{needs}
 use Rattle.grammar.proofs.decide.Statement.{statement}
 use Rattle.grammar.proofs.decide.Tie as tie

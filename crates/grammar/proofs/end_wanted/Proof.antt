@@ -1,6 +1,6 @@
 -- Each arm says which token it is, and the definition chooses by the same cases.
 use Rattle.grammar.specs.Turns.{meant}
-use Rattle.rules.specs.Orders.{Reading, ending}
+use Rattle.rules.specs.Orders.{ending}
 use Rattle.rules.specs.declared.Token.{Token}
 use mathlib.Core.Path.{sym, ap}
 use borrow.Author.Needs.{needs}

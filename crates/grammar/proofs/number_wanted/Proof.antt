@@ -1,9 +1,9 @@
 -- Each way out says which token or word it is, and the definition chooses by the same cases.
 use Rattle.grammar.proofs.Tags.{no-atom, no-numeral}
 use Rattle.grammar.specs.Laws.{number-misplaced, number-none, number-atom}
-use Rattle.grammar.specs.Turns.{meant, misplacedAs}
+use Rattle.grammar.specs.Turns.{meant}
 use Rattle.laws.specs.Tests.{pick-yes, pick-no}
-use Rattle.rules.specs.Orders.{Reading, stop}
+use Rattle.rules.specs.Orders.{stop}
 use Rattle.rules.specs.declared.Refusal.{Refusal}
 use borrow.Author.Tests.{le-leb, lt-leb}
 use mathlib.Core.Path.{sym, ap, _∙_}

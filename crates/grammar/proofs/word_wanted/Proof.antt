@@ -1,10 +1,9 @@
 -- Each way out says which token or word it is, and the definition chooses by the same cases.
 use Rattle.grammar.proofs.Tags.{no-atom}
 use Rattle.grammar.specs.Laws.{word-misplaced}
-use Rattle.grammar.specs.Turns.{meant, misplacedAs}
-use Rattle.rules.specs.Orders.{Reading, stop, word, atomWord}
+use Rattle.grammar.specs.Turns.{meant}
+use Rattle.rules.specs.Orders.{stop, word, atomWord}
 use Rattle.rules.specs.declared.Token.the-variants.{Atom}
-use Rattle.rules.specs.declared.Word.{Word}
 use Rattle.rules.specs.declared.Token.{Token}
 use Rattle.rules.specs.declared.Refusal.{Refusal}
 use mathlib.Core.Path.{sym, ap, _∙_}

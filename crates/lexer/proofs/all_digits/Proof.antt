@@ -8,7 +8,7 @@ use Rattle.rules.specs.Tokens.{isDigit}
 use Rattle.rules.specs.Basics.{every}
 use lib.ListN.{length, drop}
 use Prim.Native.Nat.{_≤_, _-_}
-use mathlib.Core.Path.{_≡_, refl, sym, ap, _∙_}
+use mathlib.Core.Path.{_≡_, refl, sym, _∙_}
 use native.Mathlib.Omega.{arith}
 use Rattle.lexer.proofs.all_digits.Statement.{statement}
 use Rattle.lexer.proofs.all_digits.Tie as tie

@@ -3,9 +3,9 @@ use borrow.Author.Tests.{not-true, not-false}
 use borrow.Author.Needs.{needs}
 use Rattle.lexer.specs.Laws.{inAtom, part, atom-first, atom-more, atom-at-end, atom-at-byte}
 use Rattle.lexer.specs.Scan.{tokensAt}
-use lib.ListN.{length, drop}
+use lib.ListN.{length}
 use Prim.Native.Nat.{_≤_, _<_, _-_}
-use mathlib.Core.Path.{_≡_, refl, sym, ap, _∙_}
+use mathlib.Core.Path.{_≡_, sym, _∙_}
 use native.Mathlib.Omega.{arith}
 use Rattle.lexer.proofs.atom_end.Statement.{statement}
 use Rattle.lexer.proofs.atom_end.Tie as tie

@@ -3,9 +3,9 @@ use Rattle.lexer.specs.Laws.{seen, tokens-end, tokens-open, tokens-close
 use Rattle.lexer.specs.Scan.{tokensAt, behind, isLast, placed}
 use Rattle.rules.specs.declared.Token.the-variants.{Atom, Open, Close, End, Foreign}
 use Rattle.rules.specs.declared.Word.{Word}
-use mathlib.Core.Bool.{false≢true, true≢false}
+use mathlib.Core.Bool.{true≢false}
 use mathlib.Core.List.{_∷_}
-use mathlib.Core.Path.{_≡_, sym, ap, _∙_}
+use mathlib.Core.Path.{sym, ap, _∙_}
 use native.Mathlib.Omega.{arith}
 use borrow.Author.Needs.{needs}
 use Rattle.lexer.proofs.next_token.Statement.{statement}

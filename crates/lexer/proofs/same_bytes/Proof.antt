@@ -5,8 +5,8 @@ use borrow.Author.Tests.{eq-eqb, ne-eqb}
 use Rattle.lexer.specs.Laws.{same-no-length, same-end, same-step}
 use Rattle.rules.specs.Tokens.{same}
 use lib.ListN.{length, drop}
-use Prim.Native.Nat.{_≤_, _<_, _-_}
-use mathlib.Core.Path.{_≡_, refl, sym, ap, _∙_}
+use Prim.Native.Nat.{_≤_, _-_}
+use mathlib.Core.Path.{_≡_, refl, sym, _∙_}
 use native.Mathlib.Omega.{arith}
 use Rattle.lexer.proofs.same_bytes.Statement.{statement}
 use Rattle.lexer.proofs.same_bytes.Tie as tie

@@ -3,9 +3,9 @@ use borrow.Author.Tests.{not-true, not-false}
 use borrow.Author.Needs.{needs}
 use Rattle.lexer.specs.Laws.{tokens-blank}
 use Rattle.lexer.specs.Scan.{tokensAt}
-use lib.ListN.{length, drop}
+use lib.ListN.{length}
 use Prim.Native.Nat.{_≤_, _-_}
-use mathlib.Core.Path.{_≡_, refl, sym, ap, _∙_}
+use mathlib.Core.Path.{_≡_, refl, sym, _∙_}
 use native.Mathlib.Omega.{arith}
 use Rattle.lexer.proofs.skip_blanks.Statement.{statement}
 use Rattle.lexer.proofs.skip_blanks.Tie as tie

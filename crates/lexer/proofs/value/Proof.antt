@@ -1,6 +1,5 @@
 -- The invariant: the value from i on, begun at n, is the value from the start; n has i digits, so no sum is too large.
 use Rattle.lexer.specs.Laws.{value-fits}
-use lib.ListN.{getD}
 use Prim.Native.Nat.{_+_, _*_}
 use Rattle.lexer.specs.Laws.{value-end, value-step, every-first, every-rest}
 use Rattle.rules.specs.Tokens.{isDigit, valueFrom}

@@ -1,12 +1,11 @@
 -- The proof of the cycle of calls {group, item}. An item at so many levels left reads a group at one level less, and a group reads its\nitems at the same levels: the measure is the levels twice, and one more for the group.\nThe group's invariant: the next item or the closing bracket is wanted, at the group's own level.
 use Rattle.pair.proofs.Tags.{no-item, no-group}
 use Rattle.pair.specs.Laws.{off-to, to-more, reached-on, kept-on, is-item, is-close, is-group, is-job, at-group, group-left}
-use Rattle.pair.specs.Moves.{Ready, Kept, Closes, Moved, Stays, togo, To}
-use Rattle.grammar.specs.declared.State.{State}
-use Rattle.rules.specs.declared.Wanted.the-variants.{ItemOrClose, ItemWord, GroupDue}
+use Rattle.pair.specs.Moves.{Ready, Kept, Closes, Moved, Stays, togo}
+use Rattle.rules.specs.declared.Wanted.the-variants.{ItemOrClose}
 use lib.ListN.{length}
 use Prim.Native.Nat.{_+_, _-_, _≤_}
-use mathlib.Core.Path.{_≡_, refl, sym, ap, subst, _∙_}
+use mathlib.Core.Path.{_≡_, refl, ap, subst, _∙_}
 use native.Mathlib.Omega.{arith}
 use borrow.Author.Needs.{needs}
 use Prim.Native.Nat.{ℕ, _<_}

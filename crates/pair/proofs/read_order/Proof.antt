@@ -1,10 +1,7 @@
 -- The tests come in the definition's order; behind them the reading has ended, and its outcome is the answer.
 use Rattle.pair.specs.Laws.{is-off, is-nowhere}
-use Rattle.pair.specs.Moves.{Nowhere, To}
-use Rattle.pair.specs.declared.Reached.{Reached}
 use Rattle.grammar.specs.Ends.{short-buffer, long-file, finished-fits, read-answers, refusal-answers, three}
 use Rattle.rules.specs.declared.Refusal.the-variants.{ShortBuffer, LongFile}
-use mathlib.Core.Path.{_≡_, subst}
 use native.Mathlib.Omega.{arith}
 use borrow.Author.Needs.{needs}
 use Rattle.pair.proofs.read_order.Statement.{statement}

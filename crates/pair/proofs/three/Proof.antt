@@ -1,14 +1,11 @@
 -- The invariant: as many tokens without choice are to go as turns are left, at the level of the start.
 use Rattle.pair.specs.Laws.{reached-on}
-use Rattle.pair.specs.Laws.{ready-on, kept-on}
+use Rattle.pair.specs.Laws.{kept-on}
 use Rattle.pair.specs.Moves.{Kept}
-use Rattle.pair.specs.Laws.{on-to, off-to, togo-less, togo-none}
-use Rattle.pair.specs.Moves.{Ready, Moved, Stays, togo, To}
-use Rattle.grammar.specs.Turns.{Stands}
-use Rattle.grammar.specs.declared.State.{State}
-use lib.ListN.{length}
-use Prim.Native.Nat.{ℕ, _+_, _-_, _≤_, _<_}
-use mathlib.Core.Path.{_≡_, refl, sym, ap, _∙_}
+use Rattle.pair.specs.Laws.{off-to, togo-less, togo-none}
+use Rattle.pair.specs.Moves.{Ready, Moved, Stays, togo}
+use Prim.Native.Nat.{_+_, _≤_}
+use mathlib.Core.Path.{_≡_, refl, _∙_}
 use native.Mathlib.Omega.{arith}
 use borrow.Author.Needs.{needs}
 use Rattle.pair.proofs.three.Statement.{statement}

@@ -1,9 +1,8 @@
 -- From the start to the items, from there to the order's closing bracket, and behind that no token goes on.
 use Rattle.pair.specs.Laws.{begin, ready-start, reached-on, off-to, to-more, order-left, nowhere}
-use Rattle.pair.specs.Moves.{Ready, Kept, Closes, Moved, Stays, Nowhere, togo, To}
-use Rattle.grammar.specs.declared.State.{State}
-use Prim.Native.Nat.{ℕ, _+_, _≤_, _<_}
-use mathlib.Core.Path.{_≡_, refl, sym, ap, _∙_}
+use Rattle.pair.specs.Moves.{Ready, Closes, Moved, Stays, Nowhere, togo}
+use Prim.Native.Nat.{ℕ, _+_, _<_}
+use mathlib.Core.Path.{refl, ap, _∙_}
 use native.Mathlib.Omega.{arith}
 use borrow.Author.Needs.{needs}
 use Rattle.pair.proofs.whole.Statement.{statement}

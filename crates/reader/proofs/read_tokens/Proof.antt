@@ -2,8 +2,8 @@
 use Rattle.grammar.specs.Steps.{stands-start, stands-bounded, stands-stop, stands-done, stands-on, moves-on}
 use Rattle.grammar.specs.Turns.{Stands}
 use lib.ListN.{length}
-use Prim.Native.Nat.{_≤_, _<_, _-_}
-use mathlib.Core.Path.{_≡_, refl, sym, ap, _∙_}
+use Prim.Native.Nat.{_-_}
+use mathlib.Core.Path.{_≡_, refl, _∙_}
 use native.Mathlib.Omega.{arith}
 use borrow.Author.Needs.{needs}
 use Rattle.reader.proofs.read_tokens.Statement.{statement}
