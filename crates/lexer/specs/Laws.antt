@@ -2,21 +2,21 @@
 use mathlib.Core.Path.{_≡_, refl, sym, ap, _∙_}
 use mathlib.Core.Bool.{Bool, true, false, not, _&&_, _||_, true≢false}
 use mathlib.Core.List.{List, [], _∷_, _++_}
-use mathlib.Core.Logic.{_⊎_, inl, inr}
-use Prim.Native.Nat.{ℕ, zero, suc, _+_, _*_, _-_, _^_, _≤_, _<_}
+use mathlib.Core.Logic.{inl, inr}
+use Prim.Native.Nat.{ℕ, suc, _+_, _*_, _-_, _^_, _≤_, _<_}
 use native.Mathlib.Nat.{pow-suc, pow-le-pow-right, lt-of-le-of-lt}
 use native.Mathlib.Numerals.{add-one}
 use native.Mathlib.Omega.{arith}
-use lib.ListN.{length, take, drop, getD, length-take, length-drop, drop-of-length-le}
-use lib.Seq.{drop-cons, take-suc, getD-drop, drop-length, drop-nil}
-use lib.Dec.{leb, ltb, eqb, lit<}
-use borrow.Author.Tests.{lt-leb, le-leb, eqb-true, eq-eqb, ne-eqb, leb-true}
+use lib.ListN.{length, take, drop, getD, length-drop, drop-of-length-le}
+use lib.Seq.{drop-cons, take-suc, getD-drop}
+use lib.Dec.{leb, eqb, lit<}
+use borrow.Author.Tests.{lt-leb, le-leb, eqb-true, eq-eqb, ne-eqb}
 use Rattle.rules.specs.declared.Word.the-variants.{Order, Group, Job, Number, Other}
 use Rattle.rules.specs.declared.Token.{Token}
 use Rattle.rules.specs.declared.Token.the-variants.{Open, Close, Atom, End, Foreign}
 use Rattle.rules.specs.Basics.{pick, isEmpty, every, within, text, mostDigits}
 use Rattle.rules.specs.Tokens.{Placed, isNumber, isDigit, isLetterOrDigit, isBlank, valueFrom, same, kind, between, closing, tokensFrom}
-use Rattle.laws.specs.Tests.{pick-yes, pick-no, or-cases, or-no, and-left, and-right, and-no-left, and-no-right, within-yes, within-low, within-high}
+use Rattle.laws.specs.Tests.{pick-yes, pick-no, or-cases, and-left, and-right, and-no-left, and-no-right, within-yes, within-low, within-high}
 use Rattle.lexer.specs.Scan.{tokensAt, isLast, behind, placed, NextToken, BlanksSkipped}
 
 -- ---- bytes

@@ -4,10 +4,9 @@ use mathlib.Core.Bool.{Bool, true, false}
 use mathlib.Core.List.{List, [], _∷_}
 use Prim.Native.Nat.{ℕ, _-_, _≤_, _<_}
 use lib.ListN.{length, take, drop, getD}
-use Rattle.rules.specs.declared.Word.{Word}
 use Rattle.rules.specs.declared.Token.{Token}
 use Rattle.rules.specs.declared.Token.the-variants.{Open, Close, Atom, End, Foreign}
-use Rattle.rules.specs.Tokens.{Placed, isBlank, isLetterOrDigit, kind, tokensFrom}
+use Rattle.rules.specs.Tokens.{Placed, isBlank, kind, tokensFrom}
 use Rattle.lexer.specs.declared.Seen.{Seen}
 
 -- the tokens of a file from the place `at` on

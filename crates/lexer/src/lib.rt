@@ -5,10 +5,9 @@ use rules::Token;
 use rules::Word;
 ghost use mathlib.Core.Path.{_≡_};
 ghost use mathlib.Core.Bool.{true};
-ghost use mathlib.Core.List.{[]};
-ghost use Prim.Native.Nat.{ℕ, _-_, _≤_, _<_};
-ghost use lib.ListN.{length, take, drop, getD};
-ghost use Rattle.rules.specs.Basics.{every, text, mostDigits};
+ghost use Prim.Native.Nat.{_-_, _≤_, _<_};
+ghost use lib.ListN.{length, getD};
+ghost use Rattle.rules.specs.Basics.{every, mostDigits};
 ghost use Rattle.rules.specs.Tokens.{isDigit, isLetterOrDigit, isBlank, isNumber, valueFrom, same, kind};
 ghost use Rattle.lexer.specs.Scan.{NextToken, BlanksSkipped, AtomRead};
 

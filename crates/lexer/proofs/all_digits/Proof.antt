@@ -8,7 +8,7 @@ use Rattle.rules.specs.Tokens.{isDigit}
 use Rattle.rules.specs.Basics.{every}
 use lib.ListN.{length, drop}
 use Prim.Native.Nat.{_≤_, _-_}
-use mathlib.Core.Path.{_≡_, refl, sym, ap, _∙_}
+use mathlib.Core.Path.{_≡_, refl, sym, _∙_}
 use native.Mathlib.Omega.{arith}
 use Rattle.lexer.proofs.all_digits.Statement.{statement}
 use Rattle.lexer.proofs.all_digits.Tie as tie
@@ -30,7 +30,9 @@ is-digit-requires c κs = search needs
 
 returns : tie.Need-returns Inv-loop μ-loop
 returns c =
-    sym (and-no-left _ _ (sym (c .before .is-digit .ensures) ∙ not-true _ (c .if1 .taken))) ∙ sym (every-step isDigit (c .before .before .before .before .before .before .args .w .now) (c .before .before .before .before .loop .i) (omega arith)) ∙ c .before .before .before .before .loop .inv .1
+    let c4 = c .before .before .before .before in
+    let c6 = c4 .before .before in
+    sym (and-no-left _ _ (sym (c .before .is-digit .ensures) ∙ not-true _ (c .if1 .taken))) ∙ sym (every-step isDigit (c6 .args .w .now) (c4 .loop .i) (omega arith)) ∙ c4 .loop .inv .1
 
 add-i : tie.Need-add-i Inv-loop μ-loop
 add-i c = omega arith
@@ -40,10 +42,14 @@ loop-less c = omega arith
 
 loop-again : tie.Need-loop-again Inv-loop μ-loop
 loop-again c =
-    (omega arith, and-first _ _ _ (sym (every-step isDigit (c .before .before .before .before .before .before .args .w .now) (c .before .before .before .before .loop .i) (omega arith)) ∙ c .before .before .before .before .loop .inv .1) (sym (c .before .is-digit .ensures) ∙ not-false _ (c .if1 .left)))
+    let c4 = c .before .before .before .before in
+    let c6 = c4 .before .before in
+    (omega arith, and-first _ _ _ (sym (every-step isDigit (c6 .args .w .now) (c4 .loop .i) (omega arith)) ∙ c4 .loop .inv .1) (sym (c .before .is-digit .ensures) ∙ not-false _ (c .if1 .left)))
 
 returns-2 : tie.Need-returns-2 Inv-loop μ-loop
-returns-2 c = sym (every-end isDigit (c .before .before .before .args .w .now) (c .before .loop .i) (omega arith)) ∙ c .before .loop .inv .1
+returns-2 c =
+    let c3 = c .before .before .before in
+    sym (every-end isDigit (c3 .args .w .now) (c .before .loop .i) (omega arith)) ∙ c .before .loop .inv .1
 
 pub all-digits-spec : {M : Type 1} → statement M
 all-digits-spec =

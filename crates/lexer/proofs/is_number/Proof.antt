@@ -9,19 +9,27 @@ returns : tie.Need-returns
 returns c = sym (number-empty (c .before .before .args .w .now) (c .if1 .taken))
 
 returns-2 : tie.Need-returns-2
-returns-2 c = sym (number-long (c .before .before .before .args .w .now) (c .if2 .taken))
+returns-2 c =
+    let c3 = c .before .before .before in
+    sym (number-long (c3 .args .w .now) (c .if2 .taken))
 
 shared-slice-read-if3 : tie.Need-shared-slice-read-if3
 shared-slice-read-if3 c = search needs
 
 returns-3 : tie.Need-returns-3
-returns-3 c = sym (number-zero (c .before .before .before .before .before .args .w .now) (c .if3 .taken))
+returns-3 c =
+    let c5 = c .before .before .before .before .before in
+    sym (number-zero (c5 .args .w .now) (c .if3 .taken))
 
 all-digits-requires : tie.Need-all-digits-requires
 all-digits-requires c κs = search needs
 
 returns-4 : tie.Need-returns-4
-returns-4 c = c .all-digits .ensures ∙ sym (number-digits (c .before .before .before .before .before .before .args .w .now) (c .before .before .before .before .if1 .left) (c .before .before .before .if2 .left) (c .before .if3 .left))
+returns-4 c =
+    let c3 = c .before .before .before in
+    let c4 = c3 .before in
+    let c6 = c4 .before .before in
+    c .all-digits .ensures ∙ sym (number-digits (c6 .args .w .now) (c4 .if1 .left) (c3 .if2 .left) (c .before .if3 .left))
 
 pub is-number-spec : {M : Type 1} → statement M
 is-number-spec =

@@ -16,7 +16,9 @@ same-bytes-requires : tie.Need-same-bytes-requires
 same-bytes-requires c κs = search needs
 
 returns : tie.Need-returns
-returns c = sym (kind-order (c .before .before .before .before .args .w .now) (sym (c .before .same-bytes .ensures) ∙ c .if1 .taken))
+returns c =
+    let c4 = c .before .before .before .before in
+    sym (kind-order (c4 .args .w .now) (sym (c .before .same-bytes .ensures) ∙ c .if1 .taken))
 
 slice-aggregate-same-bytes-2 : tie.Need-slice-aggregate-same-bytes-2
 slice-aggregate-same-bytes-2 c = search needs
@@ -25,7 +27,11 @@ same-bytes-requires-2 : tie.Need-same-bytes-requires-2
 same-bytes-requires-2 c κs = search needs
 
 returns-2 : tie.Need-returns-2
-returns-2 c = sym (kind-group (c .before .before .before .before .before .before .before .args .w .now) (sym (c .before .before .before .before .same-bytes .ensures) ∙ c .before .before .before .if1 .left) (sym (c .before .same-bytes2 .ensures) ∙ c .if2 .taken))
+returns-2 c =
+    let c3 = c .before .before .before in
+    let c4 = c3 .before in
+    let c7 = c4 .before .before .before in
+    sym (kind-group (c7 .args .w .now) (sym (c4 .same-bytes .ensures) ∙ c3 .if1 .left) (sym (c .before .same-bytes2 .ensures) ∙ c .if2 .taken))
 
 slice-aggregate-same-bytes-3 : tie.Need-slice-aggregate-same-bytes-3
 slice-aggregate-same-bytes-3 c = search needs
@@ -34,7 +40,13 @@ same-bytes-requires-3 : tie.Need-same-bytes-requires-3
 same-bytes-requires-3 c κs = search needs
 
 returns-3 : tie.Need-returns-3
-returns-3 c = sym (kind-job (c .before .before .before .before .before .before .before .before .before .before .args .w .now) (sym (c .before .before .before .before .before .before .before .same-bytes .ensures) ∙ c .before .before .before .before .before .before .if1 .left) (sym (c .before .before .before .before .same-bytes2 .ensures) ∙ c .before .before .before .if2 .left) (sym (c .before .same-bytes3 .ensures) ∙ c .if3 .taken))
+returns-3 c =
+    let c3 = c .before .before .before in
+    let c4 = c3 .before in
+    let c6 = c4 .before .before in
+    let c7 = c6 .before in
+    let c10 = c7 .before .before .before in
+    sym (kind-job (c10 .args .w .now) (sym (c7 .same-bytes .ensures) ∙ c6 .if1 .left) (sym (c4 .same-bytes2 .ensures) ∙ c3 .if2 .left) (sym (c .before .same-bytes3 .ensures) ∙ c .if3 .taken))
 
 is-number-requires : tie.Need-is-number-requires
 is-number-requires c κs = search needs
@@ -42,13 +54,22 @@ is-number-requires c κs = search needs
 -- where the atom is none of the three words
 no-word : (c : tie.Else3) → kind (c .before .before .before .before .before .before .before .before .before .before .args .w .now) ≡ pick (isNumber (c .before .before .before .before .before .before .before .before .before .before .args .w .now)) (Number (valueFrom 0 (c .before .before .before .before .before .before .before .before .before .before .args .w .now))) Other
 no-word c =
-    kind-rest (c .before .before .before .before .before .before .before .before .before .before .args .w .now) (sym (c .before .before .before .before .before .before .before .same-bytes .ensures) ∙ c .before .before .before .before .before .before .if1 .left) (sym (c .before .before .before .before .same-bytes2 .ensures) ∙ c .before .before .before .if2 .left) (sym (c .before .same-bytes3 .ensures) ∙ c .if3 .left)
+    let c3 = c .before .before .before in
+    let c4 = c3 .before in
+    let c6 = c4 .before .before in
+    let c7 = c6 .before in
+    let c10 = c7 .before .before .before in
+    kind-rest (c10 .args .w .now) (sym (c7 .same-bytes .ensures) ∙ c6 .if1 .left) (sym (c4 .same-bytes2 .ensures) ∙ c3 .if2 .left) (sym (c .before .same-bytes3 .ensures) ∙ c .if3 .left)
 
 value-requires : tie.Need-value-requires
-value-requires c κs = (number-short (c .before .before .before .before .before .before .before .before .before .before .before .before .args .w .now) (sym (c .before .is-number .ensures) ∙ c .if4 .taken), number-all (c .before .before .before .before .before .before .before .before .before .before .before .before .args .w .now) (sym (c .before .is-number .ensures) ∙ c .if4 .taken))
+value-requires c κs =
+    let c12 = c .before .before .before .before .before .before .before .before .before .before .before .before in
+    (number-short (c12 .args .w .now) (sym (c .before .is-number .ensures) ∙ c .if4 .taken), number-all (c12 .args .w .now) (sym (c .before .is-number .ensures) ∙ c .if4 .taken))
 
 returns-4 : tie.Need-returns-4
-returns-4 c = ap Number (c .value .ensures) ∙ sym (no-word (c .before .before .before) ∙ pick-yes _ _ _ (sym (c .before .before .is-number .ensures) ∙ c .before .if4 .taken))
+returns-4 c =
+    let c3 = c .before .before .before in
+    ap Number (c .value .ensures) ∙ sym (no-word (c3) ∙ pick-yes _ _ _ (sym (c .before .before .is-number .ensures) ∙ c .before .if4 .taken))
 
 returns-5 : tie.Need-returns-5
 returns-5 c = sym (no-word (c .before .before) ∙ pick-no _ _ _ (sym (c .before .is-number .ensures) ∙ c .if4 .left))

@@ -3,9 +3,9 @@ use Rattle.lexer.specs.Laws.{seen, tokens-end, tokens-open, tokens-close
 use Rattle.lexer.specs.Scan.{tokensAt, behind, isLast, placed}
 use Rattle.rules.specs.declared.Token.the-variants.{Atom, Open, Close, End, Foreign}
 use Rattle.rules.specs.declared.Word.{Word}
-use mathlib.Core.Bool.{false≢true, true≢false}
+use mathlib.Core.Bool.{true≢false}
 use mathlib.Core.List.{_∷_}
-use mathlib.Core.Path.{_≡_, sym, ap, _∙_}
+use mathlib.Core.Path.{sym, ap, _∙_}
 use native.Mathlib.Omega.{arith}
 use borrow.Author.Needs.{needs}
 use Rattle.lexer.proofs.next_token.Statement.{statement}
@@ -17,7 +17,8 @@ skip-blanks-requires c κs = search needs
 returns : tie.Need-returns
 unfolding behind isLast
 returns c =
-    seen (c .before .before .before .args .s .now) (c .before .before .before .args .at) (c .before .skip-blanks .result) (c .before .skip-blanks .ensures) End (c .before .skip-blanks .result) (tokens-end (c .before .before .before .args .s .now) (c .before .skip-blanks .result) (c .if1 .taken)) (λ h. absurd (true≢false h)) (λ h. h)
+    let c3 = c .before .before .before in
+    seen (c3 .args .s .now) (c3 .args .at) (c .before .skip-blanks .result) (c .before .skip-blanks .ensures) End (c .before .skip-blanks .result) (tokens-end (c3 .args .s .now) (c .before .skip-blanks .result) (c .if1 .taken)) (λ h. absurd (true≢false h)) (λ h. h)
 
 shared-slice-read-is-letter-or-digit : tie.Need-shared-slice-read-is-letter-or-digit
 shared-slice-read-is-letter-or-digit c = search needs
@@ -43,7 +44,9 @@ kind-of-requires c κs = search needs
 returns-2 : tie.Need-returns-2
 unfolding behind isLast
 returns-2 c =
-    seen (c .before .before .before .before .before .before .before .before .before .args .s .now) (c .before .before .before .before .before .before .before .before .before .args .at) (c .before .before .before .before .before .before .before .skip-blanks .result) (c .before .before .before .before .before .before .before .skip-blanks .ensures) (Atom (c .kind-of .result)) (c .before .before .atom-end .result) (c .before .before .atom-end .ensures .tells ∙ ap (λ (w : Word). placed (Atom w) (c .before .before .before .before .before .before .before .skip-blanks .result) ∷ tokensAt (c .before .before .before .before .before .before .before .before .before .args .s .now) (c .before .before .atom-end .result)) (sym (c .kind-of .ensures))) (λ h. c .before .before .atom-end .ensures .onward) (λ h. c .before .before .atom-end .ensures .inside)
+    let c7 = c .before .before .before .before .before .before .before in
+    let c9 = c7 .before .before in
+    seen (c9 .args .s .now) (c9 .args .at) (c7 .skip-blanks .result) (c7 .skip-blanks .ensures) (Atom (c .kind-of .result)) (c .before .before .atom-end .result) (c .before .before .atom-end .ensures .tells ∙ ap (λ (w : Word). placed (Atom w) (c7 .skip-blanks .result) ∷ tokensAt (c9 .args .s .now) (c .before .before .atom-end .result)) (sym (c .kind-of .ensures))) (λ h. c .before .before .atom-end .ensures .onward) (λ h. c .before .before .atom-end .ensures .inside)
 
 shared-slice-read-if3 : tie.Need-shared-slice-read-if3
 shared-slice-read-if3 c = search needs
@@ -54,7 +57,9 @@ add-next c = search needs
 returns-3 : tie.Need-returns-3
 unfolding behind isLast
 returns-3 c =
-    seen (c .before .before .before .before .before .before .before .before .args .s .now) (c .before .before .before .before .before .before .before .before .args .at) (c .before .before .before .before .before .before .skip-blanks .result) (c .before .before .before .before .before .before .skip-blanks .ensures) Open _ (tokens-open (c .before .before .before .before .before .before .before .before .args .s .now) (c .before .before .before .before .before .before .skip-blanks .result) (omega arith) (c .before .before .before .before .before .before .skip-blanks .ensures .no-blank (omega arith)) (c .if3 .taken)) (λ h. omega arith) (λ h. omega arith)
+    let c6 = c .before .before .before .before .before .before in
+    let c8 = c6 .before .before in
+    seen (c8 .args .s .now) (c8 .args .at) (c6 .skip-blanks .result) (c6 .skip-blanks .ensures) Open _ (tokens-open (c8 .args .s .now) (c6 .skip-blanks .result) (omega arith) (c6 .skip-blanks .ensures .no-blank (omega arith)) (c .if3 .taken)) (λ h. omega arith) (λ h. omega arith)
 
 shared-slice-read-if4 : tie.Need-shared-slice-read-if4
 shared-slice-read-if4 c = search needs
@@ -62,12 +67,18 @@ shared-slice-read-if4 c = search needs
 returns-4 : tie.Need-returns-4
 unfolding behind isLast
 returns-4 c =
-    seen (c .before .before .before .before .before .before .before .before .before .before .args .s .now) (c .before .before .before .before .before .before .before .before .before .before .args .at) (c .before .before .before .before .before .before .before .before .skip-blanks .result) (c .before .before .before .before .before .before .before .before .skip-blanks .ensures) Close _ (tokens-close (c .before .before .before .before .before .before .before .before .before .before .args .s .now) (c .before .before .before .before .before .before .before .before .skip-blanks .result) (omega arith) (c .before .before .before .before .before .before .before .before .skip-blanks .ensures .no-blank (omega arith)) (c .if4 .taken)) (λ h. omega arith) (λ h. omega arith)
+    let c8 = c .before .before .before .before .before .before .before .before in
+    let c10 = c8 .before .before in
+    seen (c10 .args .s .now) (c10 .args .at) (c8 .skip-blanks .result) (c8 .skip-blanks .ensures) Close _ (tokens-close (c10 .args .s .now) (c8 .skip-blanks .result) (omega arith) (c8 .skip-blanks .ensures .no-blank (omega arith)) (c .if4 .taken)) (λ h. omega arith) (λ h. omega arith)
 
 returns-5 : tie.Need-returns-5
 unfolding behind isLast
 returns-5 c =
-    seen (c .before .before .before .before .before .before .before .before .before .before .args .s .now) (c .before .before .before .before .before .before .before .before .before .before .args .at) (c .before .before .before .before .before .before .before .before .skip-blanks .result) (c .before .before .before .before .before .before .before .before .skip-blanks .ensures) Foreign _ (tokens-foreign (c .before .before .before .before .before .before .before .before .before .before .args .s .now) (c .before .before .before .before .before .before .before .before .skip-blanks .result) (omega arith) (c .before .before .before .before .before .before .before .before .skip-blanks .ensures .no-blank (omega arith)) (sym (c .before .before .before .before .before .is-letter-or-digit .ensures) ∙ c .before .before .before .before .if2 .left) (c .before .before .if3 .left) (c .if4 .left)) (λ h. absurd (true≢false h)) (λ h. h)
+    let c4 = c .before .before .before .before in
+    let c5 = c4 .before in
+    let c8 = c5 .before .before .before in
+    let c10 = c8 .before .before in
+    seen (c10 .args .s .now) (c10 .args .at) (c8 .skip-blanks .result) (c8 .skip-blanks .ensures) Foreign _ (tokens-foreign (c10 .args .s .now) (c8 .skip-blanks .result) (omega arith) (c8 .skip-blanks .ensures .no-blank (omega arith)) (sym (c5 .is-letter-or-digit .ensures) ∙ c4 .if2 .left) (c .before .before .if3 .left) (c .if4 .left)) (λ h. absurd (true≢false h)) (λ h. h)
 
 pub next-token-spec : {M : Type 1} → statement M
 next-token-spec =

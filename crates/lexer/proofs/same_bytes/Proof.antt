@@ -5,8 +5,8 @@ use borrow.Author.Tests.{eq-eqb, ne-eqb}
 use Rattle.lexer.specs.Laws.{same-no-length, same-end, same-step}
 use Rattle.rules.specs.Tokens.{same}
 use lib.ListN.{length, drop}
-use Prim.Native.Nat.{_≤_, _<_, _-_}
-use mathlib.Core.Path.{_≡_, refl, sym, ap, _∙_}
+use Prim.Native.Nat.{_≤_, _-_}
+use mathlib.Core.Path.{_≡_, refl, sym, _∙_}
 use native.Mathlib.Omega.{arith}
 use Rattle.lexer.proofs.same_bytes.Statement.{statement}
 use Rattle.lexer.proofs.same_bytes.Tie as tie
@@ -31,7 +31,9 @@ shared-slice-read-if2-2 c = omega arith
 
 returns-2 : tie.Need-returns-2 Inv-loop μ-loop
 returns-2 c =
-    sym (and-no-left _ _ (ne-eqb _ _ (c .if2 .taken))) ∙ sym (same-step (c .before .before .before .before .before .before .args .a .now) (c .before .before .before .before .before .before .args .b .now) (c .before .before .before .before .loop .i) (omega arith) (omega arith)) ∙ c .before .before .before .before .loop .inv .2
+    let c4 = c .before .before .before .before in
+    let c6 = c4 .before .before in
+    sym (and-no-left _ _ (ne-eqb _ _ (c .if2 .taken))) ∙ sym (same-step (c6 .args .a .now) (c6 .args .b .now) (c4 .loop .i) (omega arith) (omega arith)) ∙ c4 .loop .inv .2
 
 add-i : tie.Need-add-i Inv-loop μ-loop
 add-i c = omega arith
@@ -41,10 +43,14 @@ loop-less c = omega arith
 
 loop-again : tie.Need-loop-again Inv-loop μ-loop
 loop-again c =
-    (omega arith, c .before .before .before .before .loop .inv .1, and-first _ _ _ (sym (same-step (c .before .before .before .before .before .before .args .a .now) (c .before .before .before .before .before .before .args .b .now) (c .before .before .before .before .loop .i) (omega arith) (omega arith)) ∙ c .before .before .before .before .loop .inv .2) (eq-eqb _ _ (c .if2 .left)))
+    let c4 = c .before .before .before .before in
+    let c6 = c4 .before .before in
+    (omega arith, c4 .loop .inv .1, and-first _ _ _ (sym (same-step (c6 .args .a .now) (c6 .args .b .now) (c4 .loop .i) (omega arith) (omega arith)) ∙ c4 .loop .inv .2) (eq-eqb _ _ (c .if2 .left)))
 
 returns-3 : tie.Need-returns-3 Inv-loop μ-loop
-returns-3 c = sym (same-end (c .before .before .before .args .a .now) (c .before .before .before .args .b .now) (c .before .loop .i) (omega arith) (omega arith)) ∙ c .before .loop .inv .2
+returns-3 c =
+    let c3 = c .before .before .before in
+    sym (same-end (c3 .args .a .now) (c3 .args .b .now) (c .before .loop .i) (omega arith) (omega arith)) ∙ c .before .loop .inv .2
 
 pub same-bytes-spec : {M : Type 1} → statement M
 same-bytes-spec =

@@ -3,9 +3,9 @@ use borrow.Author.Tests.{not-true, not-false}
 use borrow.Author.Needs.{needs}
 use Rattle.lexer.specs.Laws.{tokens-blank}
 use Rattle.lexer.specs.Scan.{tokensAt}
-use lib.ListN.{length, drop}
+use lib.ListN.{length}
 use Prim.Native.Nat.{_≤_, _-_}
-use mathlib.Core.Path.{_≡_, refl, sym, ap, _∙_}
+use mathlib.Core.Path.{_≡_, refl, sym, _∙_}
 use native.Mathlib.Omega.{arith}
 use Rattle.lexer.proofs.skip_blanks.Statement.{statement}
 use Rattle.lexer.proofs.skip_blanks.Tie as tie
@@ -26,7 +26,9 @@ is-blank-requires : tie.Need-is-blank-requires Inv-loop μ-loop
 is-blank-requires c κs = search needs
 
 returns : tie.Need-returns Inv-loop μ-loop
-returns c = record { same-tokens = c .before .before .before .before .loop .inv .2; onward = c .before .before .before .before .loop .inv .0; inside = c .before .before .before .before .loop .inv .1; no-blank = λ h. sym (c .before .is-blank .ensures) ∙ not-true _ (c .if1 .taken) }
+returns c =
+    let c4 = c .before .before .before .before in
+    record { same-tokens = c4 .loop .inv .2; onward = c4 .loop .inv .0; inside = c4 .loop .inv .1; no-blank = λ h. sym (c .before .is-blank .ensures) ∙ not-true _ (c .if1 .taken) }
 
 add-i : tie.Need-add-i Inv-loop μ-loop
 add-i c = omega arith
@@ -36,7 +38,9 @@ loop-less c = omega arith
 
 loop-again : tie.Need-loop-again Inv-loop μ-loop
 loop-again c =
-    (omega arith, λ h. omega arith, c .before .before .before .before .loop .inv .2 ∙ tokens-blank (c .before .before .before .before .before .before .args .s .now) (c .before .before .before .before .loop .i) (omega arith) (sym (c .before .is-blank .ensures) ∙ not-false _ (c .if1 .left)))
+    let c4 = c .before .before .before .before in
+    let c6 = c4 .before .before in
+    (omega arith, λ h. omega arith, c4 .loop .inv .2 ∙ tokens-blank (c6 .args .s .now) (c4 .loop .i) (omega arith) (sym (c .before .is-blank .ensures) ∙ not-false _ (c .if1 .left)))
 
 returns-2 : tie.Need-returns-2 Inv-loop μ-loop
 returns-2 c = record { same-tokens = c .before .loop .inv .2; onward = c .before .loop .inv .0; inside = c .before .loop .inv .1; no-blank = λ h. absurd (omega arith) }

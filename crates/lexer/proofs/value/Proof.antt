@@ -1,6 +1,5 @@
 -- The invariant: the value from i on, begun at n, is the value from the start; n has i digits, so no sum is too large.
 use Rattle.lexer.specs.Laws.{value-fits}
-use lib.ListN.{getD}
 use Prim.Native.Nat.{_+_, _*_}
 use Rattle.lexer.specs.Laws.{value-end, value-step, every-first, every-rest}
 use Rattle.rules.specs.Tokens.{isDigit, valueFrom}
@@ -30,10 +29,13 @@ shared-slice-read-digit c = omega arith
 
 digit-requires : tie.Need-digit-requires Inv-loop μ-loop
 digit-requires c κs =
-    every-first isDigit (c .before .before .before .before .args .w .now) (c .before .before .loop .i) (omega arith) (c .before .before .loop .inv .2)
+    let c4 = c .before .before .before .before in
+    every-first isDigit (c4 .args .w .now) (c .before .before .loop .i) (omega arith) (c .before .before .loop .inv .2)
 
 add-n : tie.Need-add-n Inv-loop μ-loop
-add-n c = omega (arith, value-fits (c .before .before .before .loop .i) (c .before .before .before .loop .n) (c .digit .result) (omega arith) (c .before .before .before .loop .inv .1) (c .digit .ensures .1) .0)
+add-n c =
+    let c3 = c .before .before .before in
+    omega (arith, value-fits (c3 .loop .i) (c3 .loop .n) (c .digit .result) (omega arith) (c3 .loop .inv .1) (c .digit .ensures .1) .0)
 
 add-i : tie.Need-add-i Inv-loop μ-loop
 add-i c = omega arith
@@ -43,10 +45,14 @@ loop-less c = omega arith
 
 loop-again : tie.Need-loop-again Inv-loop μ-loop
 loop-again c =
-    (omega arith, value-fits (c .before .before .before .loop .i) (c .before .before .before .loop .n) (c .digit .result) (omega arith) (c .before .before .before .loop .inv .1) (c .digit .ensures .1) .1, every-rest isDigit (c .before .before .before .before .before .args .w .now) (c .before .before .before .loop .i) (omega arith) (c .before .before .before .loop .inv .2), ap (λ (d : ℕ). valueFrom (c .before .before .before .loop .n * 10 + d) (drop (c .before .before .before .loop .i + 1) (c .before .before .before .before .before .args .w .now))) (c .digit .ensures .0) ∙ sym (value-step (c .before .before .before .loop .n) (c .before .before .before .before .before .args .w .now) (c .before .before .before .loop .i) (omega arith)) ∙ c .before .before .before .loop .inv .3)
+    let c3 = c .before .before .before in
+    let c5 = c3 .before .before in
+    (omega arith, value-fits (c3 .loop .i) (c3 .loop .n) (c .digit .result) (omega arith) (c3 .loop .inv .1) (c .digit .ensures .1) .1, every-rest isDigit (c5 .args .w .now) (c3 .loop .i) (omega arith) (c3 .loop .inv .2), ap (λ (d : ℕ). valueFrom (c3 .loop .n * 10 + d) (drop (c3 .loop .i + 1) (c5 .args .w .now))) (c .digit .ensures .0) ∙ sym (value-step (c3 .loop .n) (c5 .args .w .now) (c3 .loop .i) (omega arith)) ∙ c3 .loop .inv .3)
 
 returns : tie.Need-returns Inv-loop μ-loop
-returns c = sym (value-end (c .before .loop .n) (c .before .before .before .args .w .now) (c .before .loop .i) (omega arith)) ∙ c .before .loop .inv .3
+returns c =
+    let c3 = c .before .before .before in
+    sym (value-end (c .before .loop .n) (c3 .args .w .now) (c .before .loop .i) (omega arith)) ∙ c .before .loop .inv .3
 
 pub value-spec : {M : Type 1} → statement M
 value-spec =

@@ -1,9 +1,9 @@
 -- The invariant: state and lists hold a reading from which the tokens from the place on give the file's outcome. A turn that goes on\nsaw a token that is not the last, so the place moves forward, and the bytes left are the measure.
-use Rattle.reader.specs.Steps.{stands-start, stands-bounded, stands-stop, stands-done, stands-on, moves-on}
-use Rattle.reader.specs.Turns.{Stands}
+use Rattle.grammar.specs.Steps.{stands-start, stands-bounded, stands-stop, stands-done, stands-on, moves-on}
+use Rattle.grammar.specs.Turns.{Stands}
 use lib.ListN.{length}
-use Prim.Native.Nat.{_≤_, _<_, _-_}
-use mathlib.Core.Path.{_≡_, refl, sym, ap, _∙_}
+use Prim.Native.Nat.{_-_}
+use mathlib.Core.Path.{_≡_, refl, _∙_}
 use native.Mathlib.Omega.{arith}
 use borrow.Author.Needs.{needs}
 use Rattle.reader.proofs.read_tokens.Statement.{statement}
@@ -16,7 +16,9 @@ abbrev μ-loop : tie.MeasureT-loop
 μ-loop file work₀ due₀ least₀ at₀ state₀ work due least at state = length file - at
 
 loop-holds : tie.Need-loop-holds Inv-loop μ-loop
-loop-holds c = (refl, refl, refl, stands-start (c .before .before .before .before .args .file .now) (c .before .before .before .before .args .work .now) (c .before .before .before .before .args .due .now) (c .before .before .before .before .args .least .now))
+loop-holds c =
+    let c4 = c .before .before .before .before in
+    (refl, refl, refl, stands-start (c4 .args .file .now) (c4 .args .work .now) (c4 .args .due .now) (c4 .args .least .now))
 
 next-token-requires : tie.Need-next-token-requires Inv-loop μ-loop
 next-token-requires c κs = search needs
@@ -28,46 +30,81 @@ enum-known-turn : tie.Need-enum-known-turn Inv-loop μ-loop
 enum-known-turn c = search needs
 
 same-length : tie.Need-same-length Inv-loop μ-loop
-same-length c = c .before .before .before .before .before .loop .inv .0
+same-length c =
+    let c5 = c .before .before .before .before .before in
+    c5 .loop .inv .0
 
 same-length-2 : tie.Need-same-length-2 Inv-loop μ-loop
-same-length-2 c = c .before .before .before .before .before .loop .inv .1
+same-length-2 c =
+    let c5 = c .before .before .before .before .before in
+    c5 .loop .inv .1
 
 same-length-3 : tie.Need-same-length-3 Inv-loop μ-loop
-same-length-3 c = c .before .before .before .before .before .loop .inv .2
+same-length-3 c =
+    let c5 = c .before .before .before .before .before in
+    c5 .loop .inv .2
 
 returns : tie.Need-returns Inv-loop μ-loop
-returns c = stands-stop (c .before .before .before .before .before .before .before .before .before .before .args .file .now) (c .before .before .before .before .before .loop .at) (c .before .before .before .before .before .loop .state) (c .before .before .before .before .before .loop .work) (c .before .before .before .before .before .loop .due) (c .before .before .before .before .before .loop .least) (c .before .before .before .before .before .loop .inv .3) (c .before .before .before .before .next-token .result) (c .before .before .before .before .next-token .ensures) (c .before .before .before .decide .result) (c .before .before .before .decide .ensures) (c .before .turn .given .0 .0) (c .before .turn .given .0 .1 .0) (c .before .before .before .before .before .loop .work) (c .before .before .before .before .before .loop .due) (c .before .turn .given .1)
+returns c =
+    let c3 = c .before .before .before in
+    let c4 = c3 .before in
+    let c5 = c4 .before in
+    let c10 = c5 .before .before .before .before .before in
+    stands-stop (c10 .args .file .now) (c5 .loop .at) (c5 .loop .state) (c5 .loop .work) (c5 .loop .due) (c5 .loop .least) (c5 .loop .inv .3) (c4 .next-token .result) (c4 .next-token .ensures) (c3 .decide .result) (c3 .decide .ensures) (c .before .turn .given .0 .0) (c .before .turn .given .0 .1 .0) (c5 .loop .work) (c5 .loop .due) (c .before .turn .given .1)
 
 enum-told : tie.Need-enum-told Inv-loop μ-loop
 enum-told c = search needs
 
 same-length-4 : tie.Need-same-length-4 Inv-loop μ-loop
-same-length-4 c = c .before .before .before .before .loop .inv .0
+same-length-4 c =
+    let c4 = c .before .before .before .before in
+    c4 .loop .inv .0
 
 same-length-5 : tie.Need-same-length-5 Inv-loop μ-loop
-same-length-5 c = c .before .before .before .before .loop .inv .1
+same-length-5 c =
+    let c4 = c .before .before .before .before in
+    c4 .loop .inv .1
 
 same-length-6 : tie.Need-same-length-6 Inv-loop μ-loop
-same-length-6 c = c .before .before .before .before .loop .inv .2
+same-length-6 c =
+    let c4 = c .before .before .before .before in
+    c4 .loop .inv .2
 
 returns-2 : tie.Need-returns-2 Inv-loop μ-loop
-returns-2 c = stands-done (c .before .before .before .before .before .before .before .before .before .args .file .now) (c .before .before .before .before .loop .at) (c .before .before .before .before .loop .state) (c .before .before .before .before .loop .work) (c .before .before .before .before .loop .due) (c .before .before .before .before .loop .least) (c .before .before .before .before .loop .inv .3) (c .before .before .before .next-token .result) (c .before .before .before .next-token .ensures) (c .before .before .decide .result) (c .before .before .decide .ensures) (c .enum-told .given .1)
+returns-2 c =
+    let c3 = c .before .before .before in
+    let c4 = c3 .before in
+    let c9 = c4 .before .before .before .before .before in
+    stands-done (c9 .args .file .now) (c4 .loop .at) (c4 .loop .state) (c4 .loop .work) (c4 .loop .due) (c4 .loop .least) (c4 .loop .inv .3) (c3 .next-token .result) (c3 .next-token .ensures) (c .before .before .decide .result) (c .before .before .decide .ensures) (c .enum-told .given .1)
 
 enum-known-turn-2 : tie.Need-enum-known-turn-2 Inv-loop μ-loop
 enum-known-turn-2 c = search needs
 
 act-on-requires : tie.Need-act-on-requires Inv-loop μ-loop
-act-on-requires c κs = stands-bounded (c .before .before .before .before .before .before .before .before .before .before .before .before .before .args .file .now) (c .before .before .before .before .before .before .before .before .loop .at) (c .before .before .before .before .before .before .before .before .loop .state) (c .before .before .before .before .before .before .before .before .loop .work) (c .before .before .before .before .before .before .before .before .loop .due) (c .before .before .before .before .before .before .before .before .loop .least) (c .before .before .before .before .before .before .before .before .loop .inv .3)
+act-on-requires c κs =
+    let c8 = c .before .before .before .before .before .before .before .before in
+    let c13 = c8 .before .before .before .before .before in
+    stands-bounded (c13 .args .file .now) (c8 .loop .at) (c8 .loop .state) (c8 .loop .work) (c8 .loop .due) (c8 .loop .least) (c8 .loop .inv .3)
 
 loop-less : tie.Need-loop-less Inv-loop μ-loop
 loop-less c =
-    let m = moves-on (c .before .before .before .before .before .before .before .before .before .before .before .before .before .before .before .before .before .before .before .before .args .file .now) (c .before .before .before .before .before .before .before .before .before .before .before .before .before .before .before .loop .at) (c .before .before .before .before .before .before .before .before .before .before .before .before .before .before .before .loop .state) (c .before .before .before .before .before .before .before .before .before .before .before .before .before .before .before .loop .work) (c .before .before .before .before .before .before .before .before .before .before .before .before .before .before .before .loop .due) (c .before .before .before .before .before .before .before .before .before .before .before .before .before .before .before .loop .least) (c .before .before .before .before .before .before .before .before .before .before .before .before .before .before .before .loop .inv .3) (c .before .before .before .before .before .before .before .before .before .before .before .before .before .before .next-token .result) (c .before .before .before .before .before .before .before .before .before .before .before .before .before .before .next-token .ensures) (c .before .before .before .before .before .before .before .before .before .before .before .before .before .decide .result) (c .before .before .before .before .before .before .before .before .before .before .before .before .before .decide .ensures) (c .before .before .before .before .before .before .before .before .before .before .before .turn2 .given .0 .0) (c .before .before .before .before .before .before .before .before .before .before .before .turn2 .given .1) in
-    omega (arith, m, c .before .before .before .before .before .before .before .before .before .before .before .before .before .before .next-token .ensures .inside (c .before .before .before .before .before .before .before .before .before .before .before .before .before .before .before .loop .inv .3 .inside) .1)
+    let c11 = c .before .before .before .before .before .before .before .before .before .before .before in
+    let c13 = c11 .before .before in
+    let c14 = c13 .before in
+    let c15 = c14 .before in
+    let c20 = c15 .before .before .before .before .before in
+    let m = moves-on (c20 .args .file .now) (c15 .loop .at) (c15 .loop .state) (c15 .loop .work) (c15 .loop .due) (c15 .loop .least) (c15 .loop .inv .3) (c14 .next-token .result) (c14 .next-token .ensures) (c13 .decide .result) (c13 .decide .ensures) (c11 .turn2 .given .0 .0) (c11 .turn2 .given .1) in
+    omega (arith, m, c14 .next-token .ensures .inside (c15 .loop .inv .3 .inside) .1)
 
 loop-again : tie.Need-loop-again Inv-loop μ-loop
 loop-again c =
-    (c .before .before .before .before .before .before .act-on .kept .1 .1 .0 ∙ c .before .before .before .before .before .before .before .before .before .before .before .before .before .before .before .loop .inv .0, c .before .before .before .before .before .before .act-on .kept .1 .1 .1 .0 ∙ c .before .before .before .before .before .before .before .before .before .before .before .before .before .before .before .loop .inv .1, c .before .before .before .before .before .before .act-on .kept .1 .1 .1 .1 .0 ∙ c .before .before .before .before .before .before .before .before .before .before .before .before .before .before .before .loop .inv .2, stands-on (c .before .before .before .before .before .before .before .before .before .before .before .before .before .before .before .before .before .before .before .before .args .file .now) (c .before .before .before .before .before .before .before .before .before .before .before .before .before .before .before .loop .at) (c .before .before .before .before .before .before .before .before .before .before .before .before .before .before .before .loop .state) (c .before .before .before .before .before .before .before .before .before .before .before .before .before .before .before .loop .work) (c .before .before .before .before .before .before .before .before .before .before .before .before .before .before .before .loop .due) (c .before .before .before .before .before .before .before .before .before .before .before .before .before .before .before .loop .least) (c .before .before .before .before .before .before .before .before .before .before .before .before .before .before .before .loop .inv .3) (c .before .before .before .before .before .before .before .before .before .before .before .before .before .before .next-token .result) (c .before .before .before .before .before .before .before .before .before .before .before .before .before .before .next-token .ensures) (c .before .before .before .before .before .before .before .before .before .before .before .before .before .decide .result) (c .before .before .before .before .before .before .before .before .before .before .before .before .before .decide .ensures) (c .before .before .before .before .before .before .before .before .before .before .before .turn2 .given .0 .0) (c .before .before .before .before .before .before .before .before .before .before .before .turn2 .given .1) (c .before .before .before .before .before .before .act-on .result) (c .before .before .before .before .before .before .act-on .last .1 .1 .0) (c .before .before .before .before .before .before .act-on .last .1 .1 .1 .0) (c .before .before .before .before .before .before .act-on .last .1 .1 .1 .1 .0) (omega (arith, c .before .before .before .before .before .before .before .before .before .before .before .before .before .before .before .before .before .before .before .before .pre .0, c .before .before .before .before .before .before .before .before .before .before .before .before .before .before .before .loop .inv .0)) (omega (arith, c .before .before .before .before .before .before .before .before .before .before .before .before .before .before .before .before .before .before .before .before .pre .1, c .before .before .before .before .before .before .before .before .before .before .before .before .before .before .before .loop .inv .1)) (omega (arith, c .before .before .before .before .before .before .before .before .before .before .before .before .before .before .before .before .before .before .before .before .pre .2, c .before .before .before .before .before .before .before .before .before .before .before .before .before .before .before .loop .inv .2)) (c .before .before .before .before .before .before .act-on .ensures))
+    let c6 = c .before .before .before .before .before .before in
+    let c11 = c6 .before .before .before .before .before in
+    let c13 = c11 .before .before in
+    let c14 = c13 .before in
+    let c15 = c14 .before in
+    let c20 = c15 .before .before .before .before .before in
+    (c6 .act-on .kept .1 .1 .0 ∙ c15 .loop .inv .0, c6 .act-on .kept .1 .1 .1 .0 ∙ c15 .loop .inv .1, c6 .act-on .kept .1 .1 .1 .1 .0 ∙ c15 .loop .inv .2, stands-on (c20 .args .file .now) (c15 .loop .at) (c15 .loop .state) (c15 .loop .work) (c15 .loop .due) (c15 .loop .least) (c15 .loop .inv .3) (c14 .next-token .result) (c14 .next-token .ensures) (c13 .decide .result) (c13 .decide .ensures) (c11 .turn2 .given .0 .0) (c11 .turn2 .given .1) (c6 .act-on .result) (c6 .act-on .last .1 .1 .0) (c6 .act-on .last .1 .1 .1 .0) (c6 .act-on .last .1 .1 .1 .1 .0) (omega (arith, c20 .pre .0, c15 .loop .inv .0)) (omega (arith, c20 .pre .1, c15 .loop .inv .1)) (omega (arith, c20 .pre .2, c15 .loop .inv .2)) (c6 .act-on .ensures))
 
 pub read-tokens-spec : {M : Type 1} → statement M
 read-tokens-spec =
