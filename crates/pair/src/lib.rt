@@ -182,3 +182,13 @@ pub fn read_order(file: &[u8], work: &mut [u32], due: &mut [u32]) -> OrderRead
     };
     answer(ended, work, due)
 }
+
+// For comparing the pair with the reader that ships; this crate's archive is linked into tests alone.
+#[no_mangle]
+pub extern "C" fn pair_read_order(file: &[u8], work: &mut [u32], due: &mut [u32]) -> OrderRead
+    ensures said { λ r. ⌜ r ≡ readAnswer (now (file .entry)) (now (work .entry)) (now (due .entry)) .said ⌝ }
+    ensures works { λ _. ⌜ now (work .exit) ≡ readAnswer (now (file .entry)) (now (work .entry)) (now (due .entry)) .work ⌝ }
+    ensures dues { λ _. ⌜ now (due .exit) ≡ readAnswer (now (file .entry)) (now (work .entry)) (now (due .entry)) .due ⌝ }
+{
+    read_order(file, work, due)
+}
