@@ -17,7 +17,8 @@ use Rattle.rules.specs.declared.Written.{Written}
 use Rattle.rules.specs.Refusals.{numberOf}
 use Rattle.rules.specs.Plans.{Row, firstRow, rowsOf}
 use Rattle.rules.specs.PlanFiles.{bytesOf, rowBytes, rowsBytes, rowFits, trailerBytes, fileLength, firstWide, firstWideFrom, WriteAnswer, writeAnswer, refusedWrite, written}
-use Rattle.planfile.specs.Stores.{stored, tableRowAt, behind, length-stored, length-bytesOf}
+use Rattle.laws.specs.Stores.{stored, behind, length-stored}
+use Rattle.planfile.specs.Stores.{tableRowAt, length-bytesOf}
 
 unfoldable pub refusedWritten : Refusal → ℕ → Written
 refusedWritten refusal place = record { refusal = numberOf refusal; place = place; length = 0 }

@@ -1,4 +1,4 @@
-use Rattle.planfile.specs.Stores.{stored}
+use Rattle.laws.specs.Stores.{stored}
 use Rattle.rules.specs.PlanFiles.{rowsBytes}
 use Rattle.rules.specs.Plans.{rowsOf}
 use Prim.Native.Nat.{ℕ}

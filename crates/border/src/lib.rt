@@ -1,0 +1,38 @@
+// The C border: every function that C may call, with its contract carried over. A `&[T]` is a pointer and a count of
+// elements; results are plain structs of 32-bit numbers. No function here has a `requires`: each answers all inputs.
+ghost use mathlib.Core.Path.{_≡_};
+ghost use Rattle.rules.specs.PlanFiles.{partAnswer, partOf, writeAnswer};
+ghost use Rattle.planfile.specs.Rows.{tableRow, rowAt};
+use planfile::TableRow;
+use rules::RowPart;
+use rules::Written;
+
+// Where the rows of a plan file stand, as an offset and a length in bytes.
+#[no_mangle]
+pub extern "C" fn tuffbasket_find_rows(file: &[u8]) -> RowPart
+    ensures { λ r. ⌜ r ≡ partAnswer (now (file .entry)) ⌝ }
+{
+    planfile::find_rows(file)
+}
+
+// Row i of a plan file, counted from 0.
+#[no_mangle]
+pub extern "C" fn tuffbasket_file_row(file: &[u8], i: usize) -> TableRow
+    ensures { λ r. ⌜ r ≡ tableRow (rowAt (partOf (now (file .entry))) i) ⌝ }
+{
+    planfile::file_row(file, i)
+}
+
+// Writes a plan file behind a note of so many bytes.
+#[no_mangle]
+pub extern "C" fn tuffbasket_write_plan(
+    table: &[u32],
+    count: usize,
+    buffer: &mut [u8],
+    note: usize,
+) -> Written
+    ensures said { λ r. ⌜ r ≡ writeAnswer (now (table .entry)) count (now (buffer .entry)) note .said ⌝ }
+    ensures later { λ _. ⌜ now (buffer .exit) ≡ writeAnswer (now (table .entry)) count (now (buffer .entry)) note .buffer ⌝ }
+{
+    planfile::write_plan(table, count, buffer, note)
+}
