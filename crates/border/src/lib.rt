@@ -1,11 +1,41 @@
 // The C border: every function that C may call, with its contract carried over. A `&[T]` is a pointer and a count of
 // elements; results are plain structs of 32-bit numbers. No function here has a `requires`: each answers all inputs.
 ghost use mathlib.Core.Path.{_≡_};
+ghost use Rattle.rules.specs.Orders.{readAnswer};
+ghost use Rattle.rules.specs.Checking.{checkAnswer};
 ghost use Rattle.rules.specs.PlanFiles.{partAnswer, partOf, writeAnswer};
+ghost use Rattle.checker.specs.Answer.{SaysPlans};
 ghost use Rattle.planfile.specs.Rows.{tableRow, rowAt};
 use planfile::TableRow;
+use rules::Checked;
+use rules::OrderRead;
 use rules::RowPart;
 use rules::Written;
+
+// Reads an order file into two lent lists.
+#[no_mangle]
+pub extern "C" fn tuffbasket_read_order(file: &[u8], work: &mut [u32], due: &mut [u32]) -> OrderRead
+    ensures said { λ r. ⌜ r ≡ readAnswer (now (file .entry)) (now (work .entry)) (now (due .entry)) .said ⌝ }
+    ensures works { λ _. ⌜ now (work .exit) ≡ readAnswer (now (file .entry)) (now (work .entry)) (now (due .entry)) .work ⌝ }
+    ensures dues { λ _. ⌜ now (due .exit) ≡ readAnswer (now (file .entry)) (now (work .entry)) (now (due .entry)) .due ⌝ }
+{
+    reader::read_order(file, work, due)
+}
+
+// Says yes to exactly the plans.
+#[no_mangle]
+pub extern "C" fn tuffbasket_check(
+    boards: u32,
+    work: &[u32],
+    due: &[u32],
+    table: &[u32],
+    rows: usize,
+) -> Checked
+    ensures answer { λ r. ⌜ r ≡ checkAnswer boards (now (work .entry)) (now (due .entry)) (now (table .entry)) rows ⌝ }
+    ensures plans { λ r. ⌜ SaysPlans boards (now (work .entry)) (now (due .entry)) (now (table .entry)) rows r ⌝ }
+{
+    checker::check(boards, work, due, table, rows)
+}
 
 // Where the rows of a plan file stand, as an offset and a length in bytes.
 #[no_mangle]

@@ -1,0 +1,3 @@
+-- Laws of the lines that a listing is made of.
+pub mod Digits
+pub mod Fields

@@ -1,0 +1,91 @@
+-- Each arm says what was wanted, and cites the law of what the lists hold after that number.
+use Rattle.reader.proofs.Tags.{no-take}
+use Rattle.reader.specs.Laws.{took-boards, took-group, took-work, took-due, took-none}
+use borrow.Author.Needs.{needs}
+use Rattle.reader.proofs.take_number.Statement.{statement}
+use Rattle.reader.proofs.take_number.Tie as tie
+
+enum-told : tie.Need-enum-told
+enum-told c = search needs
+
+enum-told-2 : tie.Need-enum-told-2
+enum-told-2 c = search needs
+
+least-due-requires : tie.Need-least-due-requires
+least-due-requires c κs = search needs
+
+put-requires : tie.Need-put-requires
+put-requires c κs = search needs
+
+add-t20 : tie.Need-add-t20
+add-t20 c = search needs
+
+enum-told-3 : tie.Need-enum-told-3
+enum-told-3 c = search needs
+
+put-requires-2 : tie.Need-put-requires-2
+put-requires-2 c κs = search needs
+
+enum-told-4 : tie.Need-enum-told-4
+enum-told-4 c = search needs
+
+least-due-requires-2 : tie.Need-least-due-requires-2
+least-due-requires-2 c κs = search needs
+
+put-requires-3 : tie.Need-put-requires-3
+put-requires-3 c κs = search needs
+
+add-t31 : tie.Need-add-t31
+add-t31 c = search needs
+
+returns : tie.Need-returns
+returns c = λ r s w d l h. took-boards r (c .before .before .before .before .before .args .state) (c .before .before .before .before .before .args .work .now) (c .before .before .before .before .before .args .due .now) (c .before .before .before .before .before .args .least .now) h (c .before .before .before .before .before .args .n) (c .enum-told .given .1)
+
+same-length : tie.Need-same-length
+same-length c = search needs
+
+returns-2 : tie.Need-returns-2
+returns-2 c = λ r s w d l h. took-group r (c .before .before .before .before .before .before .before .before .before .before .before .args .state) (c .before .before .before .before .before .before .before .before .before .before .before .args .work .now) (c .before .before .before .before .before .before .before .before .before .before .before .args .due .now) (c .before .before .before .before .before .before .before .before .before .before .before .args .least .now) h (c .before .before .before .before .before .before .before .before .before .before .before .args .n) (c .before .before .before .before .least-due .result) (c .before .before .put .last .0) s l (c .before .before .before .before .before .before .enum-told2 .given .1) (c .before .before .before .before .least-due .ensures) (c .before .before .put .ensures)
+
+same-length-2 : tie.Need-same-length-2
+same-length-2 c = search needs
+
+returns-3 : tie.Need-returns-3
+returns-3 c = λ r s w d l h. took-work r (c .before .before .before .before .before .before .before .before .before .args .state) (c .before .before .before .before .before .before .before .before .before .args .work .now) (c .before .before .before .before .before .before .before .before .before .args .due .now) (c .before .before .before .before .before .before .before .before .before .args .least .now) h (c .before .before .before .before .before .before .before .before .before .args .n) (c .before .before .put2 .last .0) s w (c .before .before .before .before .enum-told3 .given .1) (c .before .before .put2 .ensures)
+
+same-length-3 : tie.Need-same-length-3
+same-length-3 c = search needs
+
+same-length-4 : tie.Need-same-length-4
+same-length-4 c = search needs
+
+returns-4 : tie.Need-returns-4
+returns-4 c = λ r s w d l h. took-due r (c .before .before .before .before .before .before .before .before .before .before .before .args .state) (c .before .before .before .before .before .before .before .before .before .before .before .args .work .now) (c .before .before .before .before .before .before .before .before .before .before .before .args .due .now) (c .before .before .before .before .before .before .before .before .before .before .before .args .least .now) h (c .before .before .before .before .before .before .before .before .before .before .before .args .n) (c .before .before .before .before .least-due2 .result) (c .before .before .put3 .last .0) s d (c .before .before .before .before .before .before .enum-told4 .given .1) (c .before .before .before .before .least-due2 .ensures) (c .before .before .put3 .ensures)
+
+returns-5 : tie.Need-returns-5
+returns-5 c = λ r s w d l h. took-none r (c .before .before .before .before .args .state) (c .before .before .before .before .args .work .now) (c .before .before .before .before .args .due .now) (c .before .before .before .before .args .least .now) h (c .before .before .before .before .args .n) (no-take (c .before .before .before .before .args .state .wanted) (c .match .keys5))
+
+pub take-number-spec : {M : Type 1} → statement M
+take-number-spec =
+    tie.close
+    (tie.spec
+    enum-told
+    enum-told-2
+    least-due-requires
+    put-requires
+    add-t20
+    enum-told-3
+    put-requires-2
+    enum-told-4
+    least-due-requires-2
+    put-requires-3
+    add-t31
+    returns
+    same-length
+    returns-2
+    same-length-2
+    returns-3
+    same-length-3
+    same-length-4
+    returns-4
+    returns-5)
