@@ -145,7 +145,7 @@ static void draw_day(uint32_t m, uint32_t n)
         uint32_t place = i % (m + 1);
         if (place == 0)
             left = stretch - 1;
-        uint32_t out = place == m ? left : draw(2 * stretch / (m + 1));
+        uint32_t out = place == m ? left : 1 + draw(2 * stretch / (m + 1) - 1);
         out = out < left ? out : left;
         left -= out;
         work[i] = stretch - out;
@@ -162,18 +162,24 @@ static void draw_day(uint32_t m, uint32_t n)
     }
 }
 
-/* A day with a plan and no minute to spare, its plan in `table`. */
+/* The plan of the day goes to `table`. */
+static void plan_it(void)
+{
+    struct tuffbasket_planned said = tuffbasket_plan(boards, work, jobs, due, jobs, table, TABLE);
+    rows = said.rows;
+    if (said.refusal != 0) {
+        fprintf(stderr, "bench: refusal %u for a day that has a plan\n", (unsigned)said.refusal);
+        exit(1);
+    }
+}
+
+/* A day with a plan and no minute to spare. */
 static void tight_day(uint32_t m, uint32_t n)
 {
     draw_day(m, n);
     boards = m;
     jobs = n;
-    struct tuffbasket_planned said = tuffbasket_plan(boards, work, jobs, due, jobs, table, TABLE);
-    rows = said.rows;
-    if (said.refusal != 0) {
-        fprintf(stderr, "bench: refusal %u for %u boards\n", (unsigned)said.refusal, (unsigned)m);
-        exit(1);
-    }
+    plan_it();
 }
 
 static void add(const char *text)
@@ -227,14 +233,25 @@ static void against_c(void)
     line("noise", "C against C: check", plain_check_day, plain_check_day);
 }
 
+/* Days as the second program draws them, with few and with many different due minutes. */
+static void flow_line(uint32_t m, size_t n, size_t stretches)
+{
+    struct numbers works = {work, JOBS}, dues = {due, JOBS};
+    second_draw_tight_day(m, n, stretches, &works, &dues);
+    boards = m;
+    jobs = (uint32_t)works.count;
+    plan_it();
+    struct comparison c = compare(flow, archive_plan, n < 1000 ? 11 : 3);
+    printf("%-8s %8u %8u %12zu %12.2f %12.2f %10.1f\n", "flow", (unsigned)m, (unsigned)jobs, stretches, c.second, c.first, c.ratio);
+}
+
 static void against_flow(void)
 {
-    printf("\n%-8s %8s %8s %12s %12s %10s\n", "", "boards", "jobs", "plan us", "flow us", "flow/plan");
-    for (uint32_t n = 10; n <= 1000; n *= 10) {
+    printf("\n%-8s %8s %8s %12s %12s %12s %10s\n", "", "boards", "jobs", "due minutes", "plan us", "flow us", "flow/plan");
+    for (size_t n = 10; n <= 1000; n *= 10) {
         for (uint32_t m = 4; m <= 64; m *= 16) {
-            tight_day(m, n);
-            struct comparison c = compare(flow, archive_plan, n < 1000 ? 11 : 3);
-            printf("%-8s %8u %8u %12.2f %12.2f %10.0f\n", "flow", (unsigned)m, (unsigned)jobs, c.second, c.first, c.ratio);
+            flow_line(m, n, n / 5);
+            flow_line(m, n, n);
         }
     }
 }

@@ -133,17 +133,18 @@ pub extern "C" fn second_draw_day(seed: u64, work: &mut Lent<u32>, due: &mut Len
     boards
 }
 
-/// A day with a plan and no minute to spare, as large as is asked.
+/// A day with a plan and little time to spare, of at most so many jobs and so many different due minutes.
 #[no_mangle]
 pub extern "C" fn second_draw_tight_day(
-    seed: u64,
     boards: u32,
     jobs: usize,
+    stretches: usize,
     work: &mut Lent<u32>,
     due: &mut Lent<u32>,
 ) {
-    let rng = &mut Rng::new(seed);
-    let (_, works, dues) = inputs::tight_day(rng, boards, jobs, 100, 10_000);
+    let rng = &mut Rng::new(1);
+    let longest = order::MOST_MINUTES / stretches as u32;
+    let (_, works, dues) = inputs::tight_day(rng, boards, jobs, stretches, longest);
     work.fill(&works);
     due.fill(&dues);
 }

@@ -25,7 +25,7 @@ uint32_t second_plan_exists(uint32_t boards, struct numbers work, struct numbers
 
 void second_draw_order(uint64_t seed, struct bytes *file);
 uint32_t second_draw_day(uint64_t seed, struct numbers *work, struct numbers *due);
-void second_draw_tight_day(uint64_t seed, uint32_t boards, size_t jobs, struct numbers *work, struct numbers *due);
+void second_draw_tight_day(uint32_t boards, size_t jobs, size_t stretches, struct numbers *work, struct numbers *due);
 size_t second_draw_table_length(uint64_t seed, size_t jobs);
 size_t second_draw_table(uint64_t seed, uint32_t boards, struct numbers work, struct numbers due, struct numbers *table);
 void second_draw_plan_file(uint64_t seed, struct bytes *file);
