@@ -85,7 +85,9 @@ def target_of(function, instruction, functions):
         kind, symbol, addend = instruction.relocation
         if kind not in ("R_X86_64_PLT32", "R_X86_64_PC32") or addend != -4:
             raise Bad(f"{function.name}: {instruction.text} with {kind} {symbol} {addend}")
-        return symbol
+        # A function of the archive's own may be named by its section, at whose front it stands.
+        fronts = [f.name for f in functions.values() if f.section == symbol and f.code[0].at == 0]
+        return fronts[0] if fronts else symbol
     place = re.search(r"<([^>+]+)(\+0x[0-9a-f]+)?>$", instruction.text)
     if not place:
         raise Bad(f"{function.name}: no target in {instruction.text}")
