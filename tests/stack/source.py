@@ -14,10 +14,6 @@ import re
 import subprocess
 import sys
 
-# What the compiler brings itself: system calls and the like. They call nothing of ours.
-OUTSIDE = ("libc::",)
-
-
 class Bad(Exception):
     """What the source is refused for."""
 
@@ -128,14 +124,15 @@ def functions_of(text, functions):
 
 
 def below(crates, wanted):
-    """The named crates and all that they depend on."""
-    reached, todo = [], list(wanted)
+    """The named crates and all that they depend on; the kit's libraries come with the printed form of their users."""
+    missing = [name for name in wanted if name not in crates]
+    if missing:
+        raise Bad(f"crates.txt has no {missing[0]}")
+    reached, todo = set(), list(wanted)
     while todo:
         name = todo.pop()
-        if name not in crates:
-            raise Bad(f"crates.txt has no {name}")
-        if name not in reached:
-            reached.append(name)
+        if name in crates and name not in reached:
+            reached.add(name)
             todo.extend(crates[name])
     return [name for name in crates if name in reached]
 
@@ -153,8 +150,6 @@ def deepest(name, functions, known, chain=()):
     if name in chain:
         raise Bad("reaches itself: " + " -> ".join([*chain[chain.index(name):], name]))
     if name not in functions:
-        if name.startswith(OUTSIDE):
-            return 0, (name,)
         raise Bad(f"{chain[-1]} calls {name}, which was not read")
     if name not in known:
         under = [deepest(called, functions, known, (*chain, name)) for called in sorted(functions[name].calls)]
@@ -177,7 +172,7 @@ def judge(functions):
     known, rows = {}, {}
     for name in sorted(functions):
         size, chain = deepest(name, functions, known)
-        rows[name] = size, [(f, functions[f].locals() if f in functions else 0) for f in chain]
+        rows[name] = size, [(f, functions[f].locals()) for f in chain]
     return rows, f"source: {len(functions)} functions, none reaches itself; every call names its target"
 
 
