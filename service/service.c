@@ -1,7 +1,7 @@
 /*
  * An import service: worker threads take order files from a spool folder, plan them and write plan files beside them.
  *
- *     service [-once] [-workers N] FOLDER
+ *     service [-once] FOLDER
  *
  * NAME.order is renamed NAME.taken while a worker has it, and NAME.done when it is answered. A plan stands in NAME.plan,
  * whose note is the name. One line for each file goes to standard output:
@@ -13,7 +13,7 @@
  * A refusal is an answer like any other: the worker goes on with the next file. With -once the service ends when no order
  * is left, otherwise it looks again each second. A start puts back what an earlier run had taken, so one service a folder.
  *
- * Workers have stacks of 64 KiB, whatever the files hold; all that is large comes from the heap, once for each worker.
+ * Workers have stacks of 64 KiB, whatever the files hold; all that is large is static, once for each worker.
  */
 #define _POSIX_C_SOURCE 200809L
 
@@ -24,12 +24,11 @@
 #include <fcntl.h>
 #include <pthread.h>
 #include <stdio.h>
-#include <stdlib.h>
 #include <string.h>
 #include <sys/stat.h>
 #include <unistd.h>
 
-enum { STACK_BYTES = 64 * 1024, MOST_WORKERS = 64, NAME_ROOM = 256 };
+enum { STACK_BYTES = 64 * 1024, WORKERS = 4, NAME_ROOM = 256 };
 
 /* What the workers share: the folder's entries behind a lock. */
 struct spool {
@@ -101,22 +100,15 @@ static void put_back(struct spool *spool)
 }
 
 /* One line of the log. A name may hold any byte: what is not plain becomes `?`, so that a file stays one line. */
-static void say(const char *name, const char *answer)
+static void say(const char *name, const char *answer, const char *detail)
 {
     char line[2 * NAME_ROOM];
     size_t i;
     for (i = 0; name[i] != '\0'; i++)
         line[i] = name[i] > ' ' && name[i] < 127 ? name[i] : '?';
-    snprintf(line + i, sizeof line - i, " %s\n", answer);
+    snprintf(line + i, sizeof line - i, " %s %s\n", answer, detail);
     fputs(line, stdout);
     fflush(stdout);
-}
-
-static void failed(const char *name, const char *reason)
-{
-    char answer[NAME_ROOM];
-    snprintf(answer, sizeof answer, "failed %s", reason);
-    say(name, answer);
 }
 
 /* Reads the taken file, up to the byte that makes it too long. Anything but a plain file is no order. */
@@ -162,25 +154,25 @@ static int store(struct worker *w, size_t length)
 }
 
 /* The line comes before the last move: a service killed between them says it again, and none is missing. */
-static void done(struct worker *w, const char *answer)
+static void done(struct worker *w, const char *answer, const char *detail)
 {
-    say(w->name, answer);
+    say(w->name, answer, detail);
     move(w->spool, w->name, ".taken", ".done");
 }
 
 /* An old plan of that name must not outlive the refusal of its new order. */
 static void refused(struct worker *w, uint32_t refusal, uint32_t place)
 {
-    char path[NAME_ROOM], answer[NAME_ROOM];
+    char path[NAME_ROOM], detail[64];
     ending(path, w->name, ".plan");
     unlinkat(w->spool->folder, path, 0);
-    snprintf(answer, sizeof answer, "refused %u %u", (unsigned)refusal, (unsigned)place);
-    done(w, answer);
+    snprintf(detail, sizeof detail, "%u %u", (unsigned)refusal, (unsigned)place);
+    done(w, "refused", detail);
 }
 
 static void planned(struct worker *w, struct tuffbasket_order order, uint32_t rows, uint32_t preemptions)
 {
-    char answer[NAME_ROOM];
+    char detail[64];
     size_t note = strlen(w->name);
     memcpy(w->plan, w->name, note);
     struct tuffbasket_written written =
@@ -188,11 +180,11 @@ static void planned(struct worker *w, struct tuffbasket_order order, uint32_t ro
     if (written.refusal != 0) {
         refused(w, written.refusal, written.place);
     } else if (!store(w, written.length)) {
-        failed(w->name, strerror(errno));
+        say(w->name, "failed", strerror(errno));
     } else {
-        snprintf(answer, sizeof answer, "plan %u %u %u %u", (unsigned)order.boards, (unsigned)order.jobs, (unsigned)rows,
+        snprintf(detail, sizeof detail, "%u %u %u %u", (unsigned)order.boards, (unsigned)order.jobs, (unsigned)rows,
                  (unsigned)preemptions);
-        done(w, answer);
+        done(w, "plan", detail);
     }
 }
 
@@ -201,7 +193,7 @@ static void answer(struct worker *w)
 {
     size_t length;
     if (!load(w, &length)) {
-        failed(w->name, strerror(errno));
+        say(w->name, "failed", strerror(errno));
         return;
     }
     struct tuffbasket_order order =
@@ -219,7 +211,7 @@ static void answer(struct worker *w)
     struct tuffbasket_checked check = tuffbasket_check(order.boards, w->work, order.jobs, w->due, order.jobs, w->table,
                                                        TUFFBASKET_TABLE_LENGTH, plan.rows);
     if (check.refusal != 0 || check.yes != 1)
-        failed(w->name, "the checker says no"); /* proved never to happen: then memory itself is not to be trusted */
+        say(w->name, "failed", "the checker says no"); /* proved never to happen: memory itself is at fault */
     else
         planned(w, order, plan.rows, check.preemptions);
 }
@@ -237,47 +229,31 @@ static void *run(void *lent)
     }
 }
 
-static int usage(void)
-{
-    fputs("usage: service [-once] [-workers N] FOLDER\n", stderr);
-    return 2;
-}
-
 int main(int count, char **words)
 {
-    struct spool spool = {NULL, 0, 0, PTHREAD_MUTEX_INITIALIZER};
-    long workers = 4;
-    int at = 1;
-    for (; at < count && words[at][0] == '-'; at++) {
-        if (strcmp(words[at], "-once") == 0)
-            spool.once = 1;
-        else if (strcmp(words[at], "-workers") == 0 && at + 1 < count)
-            workers = strtol(words[++at], NULL, 10);
-        else
-            return usage();
-    }
-    if (at + 1 != count || workers < 1 || workers > MOST_WORKERS)
-        return usage();
-    spool.entries = opendir(words[at]);
-    struct worker *all = calloc((size_t)workers, sizeof *all);
+    static struct worker workers[WORKERS];
+    struct spool spool = {NULL, 0, count == 3 && strcmp(words[1], "-once") == 0, PTHREAD_MUTEX_INITIALIZER};
     pthread_attr_t small;
-    if (spool.entries == NULL || all == NULL || pthread_attr_init(&small) != 0 ||
-        pthread_attr_setstacksize(&small, STACK_BYTES) != 0) {
-        perror(words[at]);
+    if (count != 2 + spool.once) {
+        fputs("usage: service [-once] FOLDER\n", stderr);
+        return 2;
+    }
+    spool.entries = opendir(words[count - 1]);
+    if (spool.entries == NULL || pthread_attr_init(&small) != 0 || pthread_attr_setstacksize(&small, STACK_BYTES) != 0) {
+        perror(words[count - 1]);
         return 1;
     }
     spool.folder = dirfd(spool.entries);
     put_back(&spool);
-    for (long i = 0; i < workers; i++) {
-        all[i].spool = &spool;
-        if (pthread_create(&all[i].thread, &small, run, &all[i]) != 0) {
+    for (int i = 0; i < WORKERS; i++) {
+        workers[i].spool = &spool;
+        if (pthread_create(&workers[i].thread, &small, run, &workers[i]) != 0) {
             perror("service: a worker");
             return 1;
         }
     }
-    for (long i = 0; i < workers; i++)
-        pthread_join(all[i].thread, NULL);
+    for (int i = 0; i < WORKERS; i++)
+        pthread_join(workers[i].thread, NULL);
     closedir(spool.entries);
-    free(all);
     return 0;
 }
