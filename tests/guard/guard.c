@@ -184,6 +184,25 @@ static void try_writer(void)
     calls++;
 }
 
+/* A pointer with count 0 is never used. */
+static void try_nothing(void)
+{
+    step = "a call with nothing";
+    static uint32_t work[TUFFBASKET_MOST_JOBS], due[TUFFBASKET_MOST_JOBS];
+    uint32_t refusals[] = {
+        tuffbasket_read_order(NULL, 0, NULL, 0, NULL, 0).refusal,
+        tuffbasket_read_order(NULL, 0, work, TUFFBASKET_MOST_JOBS, due, TUFFBASKET_MOST_JOBS).refusal,
+        tuffbasket_plan(1, NULL, 0, NULL, 0, NULL, 0).refusal,
+        tuffbasket_check(1, NULL, 0, NULL, 0, NULL, 0, 0).refusal,
+        tuffbasket_find_rows(NULL, 0).refusal,
+        tuffbasket_file_row(NULL, 0, 0).board,
+        tuffbasket_write_plan(NULL, 0, 0, NULL, 0, 0).refusal,
+    };
+    uint32_t wanted[] = {10, 3, 13, 13, 15, 0, 10};
+    same("a call with nothing", refusals, wanted, sizeof wanted);
+    calls += 7;
+}
+
 int main(int count, char **words)
 {
     unsigned long rounds = 0, most = 0;
@@ -199,6 +218,7 @@ int main(int count, char **words)
     forbid();
     signal(SIGSEGV, stopped);
     signal(SIGBUS, stopped);
+    try_nothing();
     time_t start = time(NULL);
     while (rounds < most || difftime(time(NULL), start) < seconds) {
         at_end = rounds % 2 == 0;
