@@ -23,6 +23,7 @@ RETURN = 8  # the return address that a call leaves
 FUNCTION = re.compile(r"^([0-9a-f]+) <([^>+]+)>:$")
 LINE = re.compile(r"^ *([0-9a-f]+):\t(?:[0-9a-f]{2} )+ *\t?(.*)$")
 RELOCATION = re.compile(r"^\t+([0-9a-f]+): (R_\w+)\t(\S+?)(?:([+-])0x([0-9a-f]+))?$")
+PREFIXES = re.compile(r"^(?:(?:notrack|bnd|data16|cs|ds|addr32|rex\.?\w*) +)*")
 SECTION = re.compile(r"^Disassembly of section (\S+):$")
 
 
@@ -114,7 +115,7 @@ def read_calls(functions, tables):
     for function in functions.values():
         indirect = False
         for index, instruction in enumerate(function.code):
-            mnemonic = instruction.text.split()[0]
+            mnemonic = PREFIXES.sub("", instruction.text).split()[0]
             if mnemonic.startswith(("call", "jmp", "j", "loop")):
                 if "*" in instruction.text:
                     if mnemonic.startswith("call"):
