@@ -2,6 +2,9 @@
 // elements; results are plain structs of 32-bit numbers. No function here has a `requires`: each answers all inputs.
 ghost use mathlib.Core.Path.{_≡_};
 ghost use Rattle.rules.specs.Orders.{readAnswer};
+ghost use Rattle.rules.specs.Plans.{Plan, jobs, rowsOf};
+ghost use Rattle.rules.specs.Planning.{planAnswer};
+ghost use Rattle.theory.specs.Demands.{NoneRight, FewRows, BusyRight};
 ghost use Rattle.rules.specs.Checking.{checkAnswer};
 ghost use Rattle.rules.specs.PlanFiles.{partAnswer, partOf, writeAnswer};
 ghost use Rattle.checker.specs.Answer.{SaysPlans};
@@ -9,6 +12,7 @@ ghost use Rattle.planfile.specs.Rows.{tableRow, rowAt};
 use planfile::TableRow;
 use rules::Checked;
 use rules::OrderRead;
+use rules::Planned;
 use rules::RowPart;
 use rules::Written;
 
@@ -20,6 +24,25 @@ pub extern "C" fn tuffbasket_read_order(file: &[u8], work: &mut [u32], due: &mut
     ensures dues { λ _. ⌜ now (due .exit) ≡ readAnswer (now (file .entry)) (now (work .entry)) (now (due .entry)) .due ⌝ }
 {
     reader::read_order(file, work, due)
+}
+
+// Plans a day on equal boards into a lent table: demands 2 and 3 are the clauses plan, none, few and busy.
+#[no_mangle]
+pub extern "C" fn tuffbasket_plan(
+    boards: u32,
+    work: &[u32],
+    due: &[u32],
+    table: &mut [u32],
+) -> Planned
+    ensures said { λ r. ⌜ r ≡ planAnswer boards (now (work .entry)) (now (due .entry)) (now (table .entry)) .said ⌝ }
+    ensures later { λ _. ⌜ now (table .exit) ≡ planAnswer boards (now (work .entry)) (now (due .entry)) (now (table .entry)) .table ⌝ }
+    ensures plan { λ r. ⌜ (r .refusal ≡ 0 → Plan boards (jobs (now (work .entry)) (now (due .entry))) (rowsOf (r .rows) (now (table .exit)))) ⌝ }
+    ensures none { λ r. ⌜ NoneRight boards (now (work .entry)) (now (due .entry)) (now (table .entry)) r ⌝ }
+    ensures few { λ r. ⌜ (r .refusal ≡ 0 → FewRows boards (now (work .entry)) (now (due .entry)) (rowsOf (r .rows) (now (table .exit)))) ⌝ }
+    ensures busy { λ r. ⌜ (r .refusal ≡ 0 → BusyRight (now (work .entry)) (rowsOf (r .rows) (now (table .exit)))) ⌝ }
+    ensures checked { λ r. ⌜ (r .refusal ≡ 0 → checkAnswer boards (now (work .entry)) (now (due .entry)) (now (table .exit)) (r .rows) .yes ≡ 1) ⌝ }
+{
+    planner::plan(boards, work, due, table)
 }
 
 // Says yes to exactly the plans.

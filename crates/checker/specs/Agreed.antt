@@ -1,6 +1,5 @@
 -- The planner's table passes the checker: what the two contracts give together.
 use mathlib.Core.Path.{_≡_, sym, ap, _∙_}
-use mathlib.Core.Bool.{Bool}
 use mathlib.Core.List.{List}
 use mathlib.Core.Logic.{inl, inr}
 use Prim.Native.Nat.{ℕ, _-_}
@@ -12,7 +11,7 @@ use Rattle.rules.specs.declared.Refusal.the-variants.{BadBoards, BadLists, OutO
 use Rattle.rules.specs.declared.Checked.{Checked}
 use Rattle.rules.specs.Plans.{jobs, rowsOf, isPlan}
 use Rattle.rules.specs.Planning.{PlanAnswer, planAnswer, badBoards, badLists, firstOut}
-use Rattle.rules.specs.Checking.{refusedCheck, verdict, badTable, checkAnswer}
+use Rattle.rules.specs.Checking.{refusedCheck, badTable, checkAnswer}
 use Rattle.laws.specs.Tests.{decided}
 use Rattle.theory.specs.Answers.{answer-right}
 use Rattle.checker.specs.Answer.{at-boards, at-lists, at-table, at-numbers, at-rows, fit, saidYes, verdict-plan, verdict-no}

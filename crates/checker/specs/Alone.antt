@@ -2,16 +2,15 @@
 use mathlib.Core.Path.{_≡_, refl, sym, ap, ap₂, _∙_}
 use mathlib.Core.Bool.{Bool, true, false, _&&_, _||_}
 use mathlib.Core.List.{List, [], _∷_}
-use mathlib.Core.Logic.{inl, inr}
 use Prim.Native.Nat.{ℕ, zero, suc, _+_, _-_, _≤_, _<_}
 use native.Mathlib.Omega.{arith}
 use native.Mathlib.Decide.{decLe}
 use lib.ListN.{length, getD}
 use lib.Dec.{leb, ltb, eqb}
-use borrow.Author.Tests.{leb-true, ltb-true, le-leb, lt-leb, lt-ltb, le-ltb, eq-eqb, ne-eqb}
+use borrow.Author.Tests.{leb-true, ltb-true, lt-leb, lt-ltb, le-ltb, eq-eqb, ne-eqb}
 use Rattle.rules.specs.Basics.{some, every, within, mostMinutes}
-use Rattle.rules.specs.Plans.{Row, Job, jobsFrom, jobs, serves, rowGood}
-use Rattle.laws.specs.Tests.{decided, and-yes, and-left, and-right, and-no-left, and-no-right, or-no, or-right, or-no-left, within-yes, within-low, within-high}
+use Rattle.rules.specs.Plans.{Row, jobsFrom, jobs, serves, rowGood}
+use Rattle.laws.specs.Tests.{and-left, and-right, and-no-left, and-no-right, or-no, within-yes, within-low, within-high}
 
 -- the row's job is one of the lists', and it ends by its due minute
 unfoldable pub inTime : List ℕ → Row → Bool

@@ -1,23 +1,23 @@
 -- The checker's answer: one law for each way out, and what its yes and its no say of plans.
 use mathlib.Core.Path.{_≡_, refl, sym, ap, ap₂, _∙_}
-use mathlib.Core.Bool.{Bool, true, false, not, _&&_, _||_, true≢false, false≢true}
+use mathlib.Core.Bool.{Bool, true, false, _&&_, _||_, true≢false, false≢true}
 use mathlib.Core.List.{List, [], _∷_}
 use mathlib.Core.Logic.{inl, inr}
-use Prim.Native.Nat.{ℕ, zero, suc, _+_, _*_, _-_, _/_, _≤_, _<_}
+use Prim.Native.Nat.{ℕ, zero, suc, _*_, _-_, _/_, _≤_, _<_}
 use native.Mathlib.Omega.{arith}
 use native.Mathlib.Decide.{decLe}
 use lib.ListN.{length, getD}
-use lib.Dec.{leb, ltb, eqb}
-use borrow.Author.Tests.{ltb-true, ltb-false, lt-ltb, le-ltb, eqb-true, not-true, not-false}
+use lib.Dec.{ltb, eqb}
+use borrow.Author.Tests.{ltb-false, lt-ltb, le-ltb, eqb-true, not-false}
 use Rattle.rules.specs.declared.Refusal.{Refusal}
 use Rattle.rules.specs.declared.Refusal.the-variants.{BadBoards, BadLists, OutOfRange}
 use Rattle.rules.specs.declared.Checked.{Checked}
 use Rattle.rules.specs.Basics.{pick, every, everyPair, within, mostBoards, mostRows, mostJobs, mostMinutes}
 use Rattle.rules.specs.Refusals.{numberOf}
-use Rattle.rules.specs.Plans.{Job, Row, Plan, jobsFrom, jobs, rowsOf, minutesOf, rowGood, pairGood, isPlan, preemptions}
+use Rattle.rules.specs.Plans.{Job, Row, Plan, jobsFrom, jobs, rowsOf, rowGood, pairGood, isPlan, preemptions}
 use Rattle.rules.specs.Planning.{badBoards, badLists, jobGood, firstOutFrom, firstOut}
 use Rattle.rules.specs.Checking.{refusedCheck, verdict, badTable, checkAnswer}
-use Rattle.laws.specs.Tests.{pick-yes, pick-no, decided, and-yes, and-left, and-right, and-no-left, and-no-right, or-left, or-right, or-no, or-no-left, or-no-right, within-low, within-high}
+use Rattle.laws.specs.Tests.{pick-yes, pick-no, decided, and-left, and-right, and-no-left, and-no-right, or-left, or-right, or-no, or-no-left, or-no-right, within-high}
 use Rattle.theory.specs.Test.{isPlan-plan, plan-isPlan}
 use Rattle.checker.specs.Rows.{length-rows}
 use Rattle.checker.specs.Alone.{lineGood, line-row, every-same}

@@ -1,13 +1,13 @@
 -- The rows of a table by their places: row i, counted from 0, and a test of every row as a test of every place.
 use mathlib.Core.Path.{_≡_, refl, sym, ap, ap₂, _∙_}
-use mathlib.Core.Bool.{Bool, true, false, _&&_}
+use mathlib.Core.Bool.{Bool, _&&_}
 use mathlib.Core.List.{List, [], _∷_, _++_}
-use Prim.Native.Nat.{ℕ, zero, suc, _+_, _*_, _-_, _≤_, _<_}
+use Prim.Native.Nat.{ℕ, zero, suc, _+_, _*_, _-_}
 use native.Mathlib.Omega.{arith}
 use native.Mathlib.Nat.{add-zero, zero-add}
 use lib.ListN.{length, getD, drop}
 use lib.Seq.{getD-drop, drop-drop}
-use Rattle.rules.specs.Basics.{every, everyPair}
+use Rattle.rules.specs.Basics.{every}
 use Rattle.rules.specs.Plans.{Row, firstRow, rowsOf}
 use Rattle.checker.specs.Turns.{everyFrom, rest, rest-all}
 

@@ -38,14 +38,17 @@ pub rest-dues-end : (works dues : List ℕ) (i : ℕ) → length dues ≤ i → 
 unfolding restOut
 rest-dues-end works dues i h = rw (drop-of-length-le dues h) (none-right (suc i) (drop i works))
 
-rest-job : (works dues : List ℕ) (i : ℕ) → i < length works → i < length dues → restOut works dues i ≡ pick (jobGood (getD works i 0) (getD dues i 0)) (restOut works dues (suc i)) (suc i)
+rest-job : (works dues : List ℕ) (i : ℕ) → i < length works → i < length dues →
+    restOut works dues i ≡ pick (jobGood (getD works i 0) (getD dues i 0)) (restOut works dues (suc i)) (suc i)
 unfolding restOut firstOutFrom
 rest-job works dues i p q = rw (drop-cons works i 0 p, drop-cons dues i 0 q)
 
-pub rest-good : (works dues : List ℕ) (i : ℕ) → i < length works → i < length dues → jobGood (getD works i 0) (getD dues i 0) ≡ true → restOut works dues (i + 1) ≡ restOut works dues i
+pub rest-good : (works dues : List ℕ) (i : ℕ) → i < length works → i < length dues →
+    jobGood (getD works i 0) (getD dues i 0) ≡ true → restOut works dues (i + 1) ≡ restOut works dues i
 rest-good works dues i p q good = ap (restOut works dues) (add-one i) ∙ sym (rest-job works dues i p q ∙ pick-yes _ _ _ good)
 
-pub rest-bad : (works dues : List ℕ) (i : ℕ) → i < length works → i < length dues → jobGood (getD works i 0) (getD dues i 0) ≡ false → i + 1 ≡ restOut works dues i
+pub rest-bad : (works dues : List ℕ) (i : ℕ) → i < length works → i < length dues →
+    jobGood (getD works i 0) (getD dues i 0) ≡ false → i + 1 ≡ restOut works dues i
 rest-bad works dues i p q bad = add-one i ∙ sym (rest-job works dues i p q ∙ pick-no _ _ _ bad)
 
 from-bound : (k : ℕ) (works dues : List ℕ) → firstOutFrom (suc k) works dues ≤ k + length works
@@ -54,7 +57,12 @@ from-bound k [] dues = omega (arith, none-left (suc k) dues)
 from-bound k (w ∷ works) [] = omega arith
 from-bound k (w ∷ works) (d ∷ dues) =
     elim (decided (jobGood w d)) [
-      | inl e ↦ omega (arith, pick-yes (jobGood w d) (firstOutFrom (suc (suc k)) works dues) (suc k) e, from-bound (suc k) works dues)
+      | inl e ↦ omega (
+        arith,
+        pick-yes (jobGood w d) (firstOutFrom (suc (suc k)) works dues) (suc k) e,
+        from-bound (suc k)
+            works dues,
+      )
       | inr e ↦ omega (arith, pick-no (jobGood w d) (firstOutFrom (suc (suc k)) works dues) (suc k) e)
     ]
 

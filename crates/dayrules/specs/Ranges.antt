@@ -31,7 +31,8 @@ pub lists-unequal : (works dues : List ℕ) → (length works ≡ length dues �
 unfolding badLists
 lists-unequal works dues h = ap (λ (b : Bool). not (b && within 1 mostJobs (length works))) (sym (ne-eqb _ _ h))
 
-lists-equal : (works dues : List ℕ) (b : Bool) → length works ≡ length dues → b ≡ within 1 mostJobs (length works) → not b ≡ badLists works dues
+lists-equal : (works dues : List ℕ) (b : Bool) → length works ≡ length dues → b ≡ within 1 mostJobs (length works) →
+    not b ≡ badLists works dues
 unfolding badLists
 lists-equal works dues b e h = rw (eq-eqb _ _ e) (ap not h)
 
@@ -45,18 +46,23 @@ not-leb a b =
       | inr e ↦ lt-ltb b a (leb-false a b e) ∙ ap not (sym e)
     ]
 
-pub lists-full : (works dues : List ℕ) → length works ≡ length dues → 1 ≤ length works → ltb mostJobs (length works) ≡ badLists works dues
+pub lists-full : (works dues : List ℕ) → length works ≡ length dues → 1 ≤ length works →
+    ltb mostJobs (length works) ≡ badLists works dues
 lists-full works dues e h =
-    not-leb (length works) mostJobs ∙ lists-equal works dues (leb (length works) mostJobs) e (within-above 1 mostJobs (length works) h)
+    not-leb (length works) mostJobs ∙ lists-equal works dues (leb (length works) mostJobs) e
+    (within-above 1 mostJobs (length works) h)
 
 -- what is known of a day that was not refused with 12 and 13
 pub boards-fit : (m : ℕ) → badBoards m ≡ false → (1 ≤ m) × (m ≤ mostBoards)
 unfolding badBoards
 boards-fit m e = (within-low 1 mostBoards m (not-false _ e), within-high 1 mostBoards m (not-false _ e))
 
-pub lists-fit : (works dues : List ℕ) → badLists works dues ≡ false → (length works ≡ length dues) × ((1 ≤ length works) × (length works ≤ mostJobs))
+pub lists-fit : (works dues : List ℕ) → badLists works dues ≡ false →
+    (length works ≡ length dues) × ((1 ≤ length works) × (length works ≤ mostJobs))
 unfolding badLists
 lists-fit works dues e =
     let both : (eqb (length works) (length dues) && within 1 mostJobs (length works)) ≡ true = not-false _ e in
-    let few : within 1 mostJobs (length works) ≡ true = and-right (eqb (length works) (length dues)) _ both in
-    (eqb-true _ _ (and-left _ (within 1 mostJobs (length works)) both), (within-low 1 mostJobs (length works) few, within-high 1 mostJobs (length works) few))
+    let few : within 1 mostJobs (length works) ≡ true = and-right (eqb (length works) (length dues)) _ both in (
+      eqb-true _ _ (and-left _ (within 1 mostJobs (length works)) both),
+      (within-low 1 mostJobs (length works) few, within-high 1 mostJobs (length works) few),
+    )

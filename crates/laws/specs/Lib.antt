@@ -2,3 +2,4 @@
 pub mod Tests
 pub mod Decimal
 pub mod Stores
+pub mod Rows

@@ -13,7 +13,12 @@ jobOf number work due = record { number = number; work = work; due = due }
 
 -- the row that a job of this number gets on a board
 abbrev pub rowFrom : List ℕ → ℕ → ℕ → ℕ → Row
-rowFrom free number board minutes = record { board = suc board; job = number; from = getD free board 0; to = getD free board 0 + minutes }
+rowFrom free number board minutes = record {
+  board = suc board;
+  job = number;
+  from = getD free board 0;
+  to = getD free board 0 + minutes;
+}
 
 -- the table with these rows from row `at` on
 abbrev pub withRows : List ℕ → ℕ → List Row → List ℕ

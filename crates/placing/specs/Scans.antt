@@ -46,19 +46,22 @@ less-by-best limit room best h e = less-above limit room best false h (ne-eqb be
 unfoldable pub scanRest : (ℕ → ℕ → Bool) → ℕ → List ℕ → ℕ → ℕ → ℕ → Spot
 scanRest beats due free i board best = scan beats i (record { board = board; room = best }) (drop i (rooms due free))
 
-pub scan-start-greatest : (limit due : ℕ) (free : List ℕ) → scanRest (greaterUpTo limit) due free 0 0 0 ≡ greatestUpTo limit (rooms due free)
+pub scan-start-greatest : (limit due : ℕ) (free : List ℕ) →
+    scanRest (greaterUpTo limit) due free 0 0 0 ≡ greatestUpTo limit (rooms due free)
 unfolding scanRest greatestUpTo none greaterUpTo
 scan-start-greatest limit due free = refl
 
-pub scan-start-least : (limit due : ℕ) (free : List ℕ) → scanRest (lessAbove limit) due free 0 0 0 ≡ leastAbove limit (rooms due free)
+pub scan-start-least : (limit due : ℕ) (free : List ℕ) → scanRest (lessAbove limit) due free 0 0 0 ≡ leastAbove limit
+    (rooms due free)
 unfolding scanRest leastAbove none lessAbove
 scan-start-least limit due free = refl
 
-length-rooms : (due : ℕ) (free : List ℕ) → length (rooms due free) ≡ length free
+pub length-rooms : (due : ℕ) (free : List ℕ) → length (rooms due free) ≡ length free
 unfolding rooms
 length-rooms due free = length-map free (λ f. due - f)
 
-rest-room : (due : ℕ) (free : List ℕ) (i : ℕ) → i < length free → drop i (rooms due free) ≡ (due - getD free i 0) ∷ drop (suc i) (rooms due free)
+rest-room : (due : ℕ) (free : List ℕ) (i : ℕ) → i < length free →
+    drop i (rooms due free) ≡ (due - getD free i 0) ∷ drop (suc i) (rooms due free)
 unfolding rooms
 rest-room due [] i h = absurd (omega arith)
 rest-room due (f ∷ free) zero h = refl
@@ -67,18 +70,25 @@ rest-room due (f ∷ free) (suc i) h = rest-room due free i (omega arith)
 module _ (beats : ℕ → ℕ → Bool) (due : ℕ) (free : List ℕ) (i board best : ℕ) where
   pub scan-end : length free ≤ i → record { board = board; room = best } ≡ scanRest beats due free i board best
   unfolding scanRest scan
-  scan-end h = sym (ap (λ (rs : List ℕ). scan beats i (record { board = board; room = best }) rs) (drop-of-length-le (rooms due free) {i = i} (omega (arith, length-rooms due free))))
+  scan-end h = sym (ap (λ (rs : List ℕ). scan beats i (record { board = board; room = best }) rs)
+      (drop-of-length-le (rooms due free) {i = i} (omega (arith, length-rooms due free))))
 
-  scan-turn : (here : ℕ) → here ≡ due - getD free i 0 → i < length free → scanRest beats due free i board best ≡ scan beats (suc i) (pick (beats here best) (record { board = i; room = here }) (record { board = board; room = best })) (drop (suc i) (rooms due free))
+  scan-turn : (here : ℕ) → here ≡ due - getD free i 0 → i < length free →
+      scanRest beats due free i board best ≡ scan beats (suc i)
+      (pick (beats here best) (record { board = i; room = here }) (record { board = board; room = best }))
+      (drop (suc i) (rooms due free))
   unfolding scanRest scan
   scan-turn here e h = rw (e, rest-room due free i h)
 
-  pub scan-yes : (here : ℕ) → here ≡ due - getD free i 0 → i < length free → beats here best ≡ true → scanRest beats due free (i + 1) i here ≡ scanRest beats due free i board best
+  pub scan-yes : (here : ℕ) → here ≡ due - getD free i 0 → i < length free → beats here best ≡ true →
+      scanRest beats due free (i + 1) i here ≡ scanRest beats due free i board best
   unfolding scanRest
   scan-yes here e h b = ap (λ (k : ℕ). scan beats k (record { board = i; room = here }) (drop k (rooms due free))) (add-one i)
       ∙ sym (scan-turn here e h ∙ ap (λ (s : Spot). scan beats (suc i) s (drop (suc i) (rooms due free))) (pick-yes _ _ _ b))
 
-  pub scan-no : (here : ℕ) → here ≡ due - getD free i 0 → i < length free → beats here best ≡ false → scanRest beats due free (i + 1) board best ≡ scanRest beats due free i board best
+  pub scan-no : (here : ℕ) → here ≡ due - getD free i 0 → i < length free → beats here best ≡ false →
+      scanRest beats due free (i + 1) board best ≡ scanRest beats due free i board best
   unfolding scanRest
-  scan-no here e h b = ap (λ (k : ℕ). scan beats k (record { board = board; room = best }) (drop k (rooms due free))) (add-one i)
+  scan-no here e h b = ap (λ (k : ℕ). scan beats k (record { board = board; room = best }) (drop k (rooms due free)))
+      (add-one i)
       ∙ sym (scan-turn here e h ∙ ap (λ (s : Spot). scan beats (suc i) s (drop (suc i) (rooms due free))) (pick-no _ _ _ b))

@@ -85,7 +85,8 @@ fn most_room(due: u32, free: &[u32]) -> Spot
 fn add_row(number: u32, board: usize, minutes: u32, free: &mut [u32], table: &mut [u32], at: usize)
     requires { ⌜ RowReady (now free) (now table) board minutes at ⌝ }
     ensures { λ _. ⌜ now (free .exit) ≡ fill (now (free .entry)) board minutes ⌝ }
-    ensures { λ _. ⌜ now (table .exit) ≡ withRows (now (table .entry)) at (rowFrom (now (free .entry)) number board minutes ∷ []) ⌝ }
+    ensures { λ _. ⌜ now (table .exit) ≡ withRows (now (table .entry)) at
+        (rowFrom (now (free .entry)) number board minutes ∷ []) ⌝ }
 {
     let from = free[board];
     let to = from + minutes;
@@ -108,7 +109,8 @@ pub fn place_last(
     at: usize,
 ) -> usize
     requires { ⌜ Ready (now free) (now table) at ⌝ }
-    ensures { λ r. ⌜ Wrote (placeLast (now (free .entry)) (jobOf number work due)) (now (free .entry)) (now (table .entry)) at r (now (free .exit)) (now (table .exit)) ⌝ }
+    ensures { λ r. ⌜ Wrote (placeLast (now (free .entry)) (jobOf number work due)) (now (free .entry)) (now (table .entry))
+        at r (now (free .exit)) (now (table .exit)) ⌝ }
 {
     let most = most_room(due, free);
     let board = most.board;
@@ -131,7 +133,8 @@ fn place_two(
 ) -> usize
     requires { ⌜ Ready (now free) (now table) at ⌝ }
     requires { ⌜ work ≤ greatestUpTo due (rooms due (now free)) .room ⌝ }
-    ensures { λ r. ⌜ Wrote (splitOver (now (free .entry)) number work due) (now (free .entry)) (now (table .entry)) at r (now (free .exit)) (now (table .exit)) ⌝ }
+    ensures { λ r. ⌜ Wrote (splitOver (now (free .entry)) number work due) (now (free .entry)) (now (table .entry))
+        at r (now (free .exit)) (now (table .exit)) ⌝ }
 {
     let a = greatest_up_to(work, due, free);
     let a_board = a.board;
@@ -158,7 +161,8 @@ pub fn place_other(
     at: usize,
 ) -> usize
     requires { ⌜ Ready (now free) (now table) at ⌝ }
-    ensures { λ r. ⌜ Wrote (placeOther (now (free .entry)) (jobOf number work due)) (now (free .entry)) (now (table .entry)) at r (now (free .exit)) (now (table .exit)) ⌝ }
+    ensures { λ r. ⌜ Wrote (placeOther (now (free .entry)) (jobOf number work due)) (now (free .entry)) (now (table .entry))
+        at r (now (free .exit)) (now (table .exit)) ⌝ }
 {
     let most = most_room(due, free);
     let most_room = most.room;

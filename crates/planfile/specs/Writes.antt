@@ -17,6 +17,7 @@ use Rattle.rules.specs.declared.Written.{Written}
 use Rattle.rules.specs.Refusals.{numberOf}
 use Rattle.rules.specs.Plans.{Row, firstRow, rowsOf}
 use Rattle.rules.specs.PlanFiles.{bytesOf, rowBytes, rowsBytes, rowFits, trailerBytes, fileLength, firstWide, firstWideFrom, WriteAnswer, writeAnswer, refusedWrite, written}
+use Rattle.laws.specs.Rows.{length-rowsOf}
 use Rattle.laws.specs.Stores.{stored, behind, length-stored}
 use Rattle.planfile.specs.Stores.{tableRowAt, length-bytesOf}
 
@@ -24,11 +25,6 @@ unfoldable pub refusedWritten : Refusal → ℕ → Written
 refusedWritten refusal place = record { refusal = numberOf refusal; place = place; length = 0 }
 
 -- ---- rows one by one
-
-pub length-rowsOf : (k : ℕ) (t : List ℕ) → length (rowsOf k t) ≡ k
-unfolding rowsOf
-length-rowsOf zero t = refl
-length-rowsOf (suc k) t = ap suc (length-rowsOf k (drop 4 t))
 
 pub length-rowBytes : (r : Row) → length (rowBytes r) ≡ 12
 unfolding rowBytes

@@ -67,18 +67,18 @@ pub fn find_rows(file: &[u8]) -> RowPart
         return refused_part(Refusal::BadTrailer);
     }
     let offset = load4(file, length - 8);
-    let count = load4(file, length - 4);
-    if 2000 < count {
+    let rows = load4(file, length - 4);
+    if 2000 < rows {
         return refused_part(Refusal::BadTrailer);
     }
-    if offset as usize + 12 * (count as usize) + 8 != length {
+    if offset as usize + 12 * (rows as usize) + 8 != length {
         return refused_part(Refusal::BadTrailer);
     }
     RowPart {
         refusal: 0,
         place: 0,
         offset,
-        length: 12 * count,
+        length: 12 * rows,
     }
 }
 

@@ -22,9 +22,11 @@ pub clear-end : (start table : List ℕ) (from i : ℕ) → Clear start table fr
 unfolding cleared
 clear-end start table from i c h =
     let none : length table - i ≡ 0 = omega arith in
-    sym (append-nil table) ∙ ap (λ (t : List ℕ). t ++ []) (sym (take-all i table h)) ∙ ap (λ (n : ℕ). take i table ++ zeros n) (sym none) ∙ c .whole
+    sym (append-nil table) ∙ ap (λ (t : List ℕ). t ++ []) (sym (take-all i table h))
+    ∙ ap (λ (n : ℕ). take i table ++ zeros n) (sym none) ∙ c .whole
 
-pub clear-again : (start table : List ℕ) (from i : ℕ) → Clear start table from i → i < length table → Clear start (set table i 0) from (i + 1)
+pub clear-again : (start table : List ℕ) (from i : ℕ) → Clear start table from i → i < length table →
+    Clear start (set table i 0) from (i + 1)
 unfolding cleared
 clear-again start table from i c h =
     let one : length table - i ≡ suc (length table - suc i) = omega arith in

@@ -33,7 +33,8 @@ pub record Day (free works dues table : List ℕ) : Type 0 where
   pub space : 8 * length works ≤ length table
   pub in-range : firstOut works dues ≡ 0
 
-pub told-cleared : (p : Placing) (table : List ℕ) (answer : Planned) (table′ : List ℕ) → Told p table answer table′ → length table′ ≡ length table → cleared table′ (4 * answer .rows) ≡ afterPlacing p table .table
+pub told-cleared : (p : Placing) (table : List ℕ) (answer : Planned) (table′ : List ℕ) → Told p table answer table′ →
+    length table′ ≡ length table → cleared table′ (4 * answer .rows) ≡ afterPlacing p table .table
 unfolding cleared afterPlacing refusedPlan numbersIn
 told-cleared (unplaced number) table answer table′ t e =
     let none : answer .rows ≡ 0 = ap (λ (a : Planned). a .rows) (t .said) in
@@ -42,24 +43,33 @@ told-cleared (unplaced number) table answer table′ t e =
 told-cleared (placed rows) table answer table′ t e =
     let count : answer .rows ≡ length rows = ap (λ (a : Planned). a .rows) (t .said) in
     let rest : length table′ - 4 * answer .rows ≡ length table - 4 * length rows = omega arith in
-    ap (λ (l : List ℕ). l ++ zeros (length table′ - 4 * answer .rows)) (t .rows) ∙ ap (λ (n : ℕ). numbersOf rows ++ zeros n) rest
+    ap (λ (l : List ℕ). l ++ zeros (length table′ - 4 * answer .rows)) (t .rows)
+    ∙ ap (λ (n : ℕ). numbersOf rows ++ zeros n) rest
 
 pub prefix-long : (n : ℕ) (xs : List ℕ) → n ≤ length xs → n ≡ length (take n xs)
 prefix-long n xs h = sym (length-take-le n xs h)
 
-module _ (free works dues table : List ℕ) (day : Day free works dues table) (o rest : List ℕ) (long : length o ≡ length works) where
-  front : take (length works) (o ++ rest) ≡ o
-  front = take-at o rest (length works) long
+module _ (free works dues table : List ℕ) (day : Day free works dues table) (o rest : List ℕ) (long : length o ≡ length works)
+  where
+    front : take (length works) (o ++ rest) ≡ o
+    front = take-at o rest (length works) long
 
-  pub front-long : length works ≡ length (take (length works) (o ++ rest))
-  front-long = sym (ap length front ∙ long)
+    pub front-long : length works ≡ length (take (length works) (o ++ rest))
+    front-long = sym (ap length front ∙ long)
 
-  pub day-enough : Enough (take (length works) (o ++ rest)) free table
-  day-enough =
-      rw front (record { jobs = omega (arith, day .few-jobs); some = day .some-boards; few = day .few-boards; space = omega (arith, day .space) })
+    pub day-enough : Enough (take (length works) (o ++ rest)) free table
+    day-enough =
+        rw front (record {
+          jobs = omega (arith, day .few-jobs);
+          some = day .some-boards;
+          few = day .few-boards;
+          space = omega
+              (arith, day .space);
+        })
 
-  pub day-jobs : o ≡ map recordOf (dueOrder (jobs works dues)) → map jobIn (take (length works) (o ++ rest)) ≡ dueOrder (jobs works dues)
-  day-jobs e = ap (map jobIn) (front ∙ e) ∙ jobs-ordered works dues (day .in-range) (day .few-jobs)
+    pub day-jobs : o ≡ map recordOf (dueOrder (jobs works dues)) →
+        map jobIn (take (length works) (o ++ rest)) ≡ dueOrder (jobs works dues)
+    day-jobs e = ap (map jobIn) (front ∙ e) ∙ jobs-ordered works dues (day .in-range) (day .few-jobs)
 
 take-zeros : (m k : ℕ) → m ≤ k → take m (zeros k) ≡ zeros m
 take-zeros zero k h = refl
@@ -77,7 +87,8 @@ module _ (m : ℕ) (works dues table : List ℕ) (day : Day (zeros m) works dues
   pub day-free : (free : List ℕ) → free ≡ zeros mostBoards → Day (take m free) works dues table
   day-free free e = rw (free-zeros free e) day
 
-  pub placing-zeros : (free : List ℕ) → free ≡ zeros mostBoards → placeAll [] (take m free) (dueOrder (jobs works dues)) ≡ placing m works dues
+  pub placing-zeros : (free : List ℕ) → free ≡ zeros mostBoards →
+      placeAll [] (take m free) (dueOrder (jobs works dues)) ≡ placing m works dues
   unfolding placing
   placing-zeros free e = ap (λ (f : List ℕ). placeAll [] f (dueOrder (jobs works dues))) (free-zeros free e)
 
@@ -101,12 +112,14 @@ module _ (m : ℕ) (works dues table : List ℕ) where
         pub answer-14 : 0 < out → planAnswer m works dues table ≡ refusedPlan OutOfRange out table
         unfolding planAnswer
         answer-14 h =
-            pick-no _ _ _ boards ∙ pick-no _ _ _ lists ∙ pick-no _ _ _ (le-ltb _ _ space) ∙ pick-yes _ _ _ (lt-ltb 0 (firstOut works dues) (rw e at h))
+            pick-no _ _ _ boards ∙ pick-no _ _ _ lists ∙ pick-no _ _ _ (le-ltb _ _ space)
+            ∙ pick-yes _ _ _ (lt-ltb 0 (firstOut works dues) (rw e at h))
             ∙ ap (λ (n : ℕ). refusedPlan OutOfRange n table) (sym e)
 
         pub answer-day : out ≤ 0 → planAnswer m works dues table ≡ afterPlacing (placing m works dues) table
         unfolding planAnswer
-        answer-day h = pick-no _ _ _ boards ∙ pick-no _ _ _ lists ∙ pick-no _ _ _ (le-ltb _ _ space) ∙ pick-no _ _ _ (le-ltb 0 (firstOut works dues) (rw e at h))
+        answer-day h = pick-no _ _ _ boards ∙ pick-no _ _ _ lists ∙ pick-no _ _ _ (le-ltb _ _ space)
+            ∙ pick-no _ _ _ (le-ltb 0 (firstOut works dues) (rw e at h))
 
         pub out-fits : Fits w32 out
         out-fits = record { fits = omega (arith, first-out-bound works dues, lists-fit works dues lists .1 .1) }
@@ -123,9 +136,20 @@ module _ (m : ℕ) (works dues table : List ℕ) where
             }
 
 -- a refusal writes nothing
-pub refused-answer : (a : PlanAnswer) (table : List ℕ) (refusal : Refusal) (place : ℕ) (said : Planned) → said ≡ record { refusal = numberOf refusal; place = place; rows = 0 } → a ≡ refusedPlan refusal place table → (said ≡ a .said) × (table ≡ a .table)
+pub refused-answer : (a : PlanAnswer) (table : List ℕ) (refusal : Refusal) (place : ℕ) (said : Planned) →
+    said ≡ record { refusal = numberOf refusal; place = place; rows = 0 } → a ≡ refusedPlan refusal place table →
+    (said ≡ a .said) × (table ≡ a .table)
 unfolding refusedPlan
-refused-answer a table refusal place said e p = (e ∙ sym (ap (λ (b : PlanAnswer). b .said) p), sym (ap (λ (b : PlanAnswer). b .table) p))
+refused-answer a table refusal place said e p = (
+  e ∙ sym (ap (λ (b : PlanAnswer). b .said) p),
+  sym
+      (ap (λ (b : PlanAnswer). b .table) p),
+)
 
-pub planned-answer : (a b : PlanAnswer) (table : List ℕ) (said : Planned) → said ≡ b .said → table ≡ b .table → a ≡ b → (said ≡ a .said) × (table ≡ a .table)
-planned-answer a b table said e f p = (e ∙ sym (ap (λ (c : PlanAnswer). c .said) p), f ∙ sym (ap (λ (c : PlanAnswer). c .table) p))
+pub planned-answer : (a b : PlanAnswer) (table : List ℕ) (said : Planned) → said ≡ b .said → table ≡ b .table → a ≡ b →
+    (said ≡ a .said) × (table ≡ a .table)
+planned-answer a b table said e f p = (
+  e ∙ sym (ap (λ (c : PlanAnswer). c .said) p),
+  f
+      ∙ sym (ap (λ (c : PlanAnswer). c .table) p),
+)

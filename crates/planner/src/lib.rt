@@ -55,7 +55,10 @@ fn place_job(
     at: usize,
 ) -> usize
     requires { ⌜ Ready (now free) (now table) at ⌝ }
-    ensures { λ r. ⌜ Wrote (pick last (placeLast (now (free .entry)) (jobOf number work due)) (placeOther (now (free .entry)) (jobOf number work due))) (now (free .entry)) (now (table .entry)) at r (now (free .exit)) (now (table .exit)) ⌝ }
+    ensures { λ r. ⌜ Wrote
+        (pick last (placeLast (now (free .entry)) (jobOf number work due)) (placeOther (now (free .entry)) (jobOf number work due)))
+        (now (free .entry)) (now (table .entry))
+        at r (now (free .exit)) (now (table .exit)) ⌝ }
 {
     if last {
         placing::place_last(number, work, due, free, table, at)
@@ -68,7 +71,8 @@ fn place_job(
 // may hold anything.
 fn place_jobs(records: &[u64], free: &mut [u32], table: &mut [u32]) -> Planned
     requires { ⌜ Enough (now records) (now free) (now table) ⌝ }
-    ensures { λ r. ⌜ Told (placeAll [] (now (free .entry)) (map jobIn (now (records .entry)))) (now (table .entry)) r (now (table .exit)) ⌝ }
+    ensures { λ r. ⌜ Told (placeAll [] (now (free .entry)) (map jobIn (now (records .entry)))) (now (table .entry)) r
+        (now (table .exit)) ⌝ }
 {
     let n = records.len();
     let mut count: usize = 0;
@@ -95,8 +99,10 @@ fn place_jobs(records: &[u64], free: &mut [u32], table: &mut [u32]) -> Planned
 // The whole answer for jobs in due order, from given free-from minutes: the rows, then zeros; all zero for 9.
 fn plan_records(records: &[u64], free: &mut [u32], table: &mut [u32]) -> Planned
     requires { ⌜ Enough (now records) (now free) (now table) ⌝ }
-    ensures { λ r. ⌜ r ≡ afterPlacing (placeAll [] (now (free .entry)) (map jobIn (now (records .entry)))) (now (table .entry)) .said ⌝ }
-    ensures { λ _. ⌜ now (table .exit) ≡ afterPlacing (placeAll [] (now (free .entry)) (map jobIn (now (records .entry)))) (now (table .entry)) .table ⌝ }
+    ensures { λ r. ⌜ r ≡ afterPlacing (placeAll [] (now (free .entry)) (map jobIn (now (records .entry))))
+        (now (table .entry)) .said ⌝ }
+    ensures { λ _. ⌜ now (table .exit) ≡ afterPlacing (placeAll [] (now (free .entry)) (map jobIn (now (records .entry))))
+        (now (table .entry)) .table ⌝ }
 {
     let said = place_jobs(records, free, table);
     let rows = said.rows;
@@ -116,8 +122,10 @@ fn plan_from(
     requires { ⌜ Day (now free) (now work) (now due) (now table) ⌝ }
     requires { ⌜ mostJobs ≤ length (now records) ⌝ }
     requires { ⌜ mostJobs ≤ length (now scratch) ⌝ }
-    ensures { λ r. ⌜ r ≡ afterPlacing (placeAll [] (now (free .entry)) (dueOrder (jobs (now (work .entry)) (now (due .entry))))) (now (table .entry)) .said ⌝ }
-    ensures { λ _. ⌜ now (table .exit) ≡ afterPlacing (placeAll [] (now (free .entry)) (dueOrder (jobs (now (work .entry)) (now (due .entry))))) (now (table .entry)) .table ⌝ }
+    ensures { λ r. ⌜ r ≡ afterPlacing
+        (placeAll [] (now (free .entry)) (dueOrder (jobs (now (work .entry)) (now (due .entry))))) (now (table .entry)) .said ⌝ }
+    ensures { λ _. ⌜ now (table .exit) ≡ afterPlacing
+        (placeAll [] (now (free .entry)) (dueOrder (jobs (now (work .entry)) (now (due .entry))))) (now (table .entry)) .table ⌝ }
 {
     let n = work.len();
     ordering::due_order(work, due, &mut records[..n], &mut scratch[..n]);
@@ -128,7 +136,8 @@ fn plan_from(
 fn plan_day(boards: u32, work: &[u32], due: &[u32], table: &mut [u32]) -> Planned
     requires { ⌜ Day (zeros boards) (now work) (now due) (now table) ⌝ }
     ensures { λ r. ⌜ r ≡ afterPlacing (placing boards (now (work .entry)) (now (due .entry))) (now (table .entry)) .said ⌝ }
-    ensures { λ _. ⌜ now (table .exit) ≡ afterPlacing (placing boards (now (work .entry)) (now (due .entry))) (now (table .entry)) .table ⌝ }
+    ensures { λ _. ⌜ now (table .exit) ≡ afterPlacing (placing boards (now (work .entry)) (now (due .entry)))
+        (now (table .entry)) .table ⌝ }
 {
     let m = boards as usize;
     let mut records = [0u64; MOST_JOBS];

@@ -17,7 +17,8 @@ use Rattle.rules.specs.Refusals.{numberOf}
 use Rattle.rules.specs.Plans.{Row, firstRow, rowsOf}
 use Rattle.rules.specs.PlanFiles.{bytesOf, valueOf, rowBytes, rowsBytes, decodeRow, decodeRows, trailerBytes, trailerOffset, trailerCount, trailerFits, partAnswer, partOf, fileLength, firstWide, firstWideFrom, rowFits, WriteAnswer, refusedWrite, written, writeAnswer}
 use Rattle.planfile.specs.Stores.{length-bytesOf}
-use Rattle.planfile.specs.Writes.{length-rowBytes, length-rowsBytes, length-rowsOf, length-trailer}
+use Rattle.planfile.specs.Writes.{length-rowBytes, length-rowsBytes, length-trailer}
+use Rattle.laws.specs.Rows.{length-rowsOf}
 use Rattle.planfile.specs.Parts.{found, found-rows, partOf-found, part-fits, fit-sum}
 
 -- ---- a number, its bytes, and back

@@ -9,6 +9,7 @@ use lib.ListN.{length, getD}
 use lib.Dec.{ltb, eqb}
 use Rattle.rules.specs.Basics.{pick, All, Pairs, some}
 use Rattle.rules.specs.declared.Refusal.the-variants.{NoPlan}
+use Rattle.rules.specs.declared.Planned.{Planned}
 use Rattle.rules.specs.Refusals.{numberOf}
 use Rattle.rules.specs.Plans.{Job, Row, Plan, jobs, rowsOf, isPlan}
 use Rattle.rules.specs.Planning.{placed, unplaced, placeAll, placing, dueOrder, badBoards, badLists, firstOut, PlanAnswer}
@@ -106,19 +107,40 @@ pub record ChecksPass (m : ℕ) (works dues table : List ℕ) : Type 0 where
   pub buffer : ltb (length table) (8 * length works) ≡ false
   pub numbers : ltb 0 (firstOut works dues) ≡ false
 
+-- none: refusal 9 is given exactly when no plan in whole minutes exists, and names the first job in due order that cannot be met
+-- with those before it.
+pub record NoneRight (m : ℕ) (works dues table : List ℕ) (said : Planned) : Type 0 where
+  -- its place is that job's number
+  pub first : said .refusal ≡ numberOf NoPlan → FirstUnmet (Plan m) (dueOrder (jobs works dues)) (said .place)
+  -- it comes only where no rows at all form a plan
+  pub only : said .refusal ≡ numberOf NoPlan → (rows : List Row) → Plan m (jobs works dues) rows → ⊥
+  -- and always there, past the checks
+  pub always : ChecksPass m works dues table → ((rows : List Row) → Plan m (jobs works dues) rows → ⊥) → said .refusal ≡ numberOf NoPlan
+  -- where no check refuses, a plan is given or "no plan" is said
+  pub either : ChecksPass m works dues table → (said .refusal ≡ 0) ⊎ (said .refusal ≡ numberOf NoPlan)
+
+-- few: at most the figure's rows, two a job, one for the first and the last job in due order.
+pub record FewRows (m : ℕ) (works dues : List ℕ) (rows : List Row) : Type 0 where
+  pub few : length rows ≤ rowsAtMost (length works) (distinct dues) m
+  pub two : (number : ℕ) → rowsFor number rows ≤ rowsAtMostEach
+  pub first-one : (j : Job) (js : List Job) → dueOrder (jobs works dues) ≡ j ∷ js → rowsFor (j .number) rows ≡ 1
+  pub last-one : (js : List Job) (j : Job) → dueOrder (jobs works dues) ≡ js ++ (j ∷ []) → rowsFor (j .number) rows ≡ 1
+
+-- busy: the busy minutes of all boards together equal the total work.
+abbrev pub BusyRight : List ℕ → List Row → Type 0
+BusyRight works rows = total minutesIn rows ≡ total (λ w. w) works
+
 pub record AnswerRight (m : ℕ) (works dues table : List ℕ) (a : PlanAnswer) : Type 0 where
   -- accepted: the table begins with a plan
   pub plan : a .said .refusal ≡ 0 → Plan m (jobs works dues) (rowsOf (a .said .rows) (a .table))
   -- of few rows
-  pub few : a .said .refusal ≡ 0 → a .said .rows ≤ rowsAtMost (length works) (distinct dues) m
+  pub few : a .said .refusal ≡ 0 → FewRows m works dues (rowsOf (a .said .rows) (a .table))
+  -- whose minutes are the work
+  pub busy : a .said .refusal ≡ 0 → BusyRight works (rowsOf (a .said .rows) (a .table))
   -- to which the checker says yes
   pub checked : a .said .refusal ≡ 0 → checkAnswer m works dues (a .table) (a .said .rows) .yes ≡ 1
-  -- "no plan": its place is the number of the first job in due order that cannot be met with those before it
-  pub first : a .said .refusal ≡ numberOf NoPlan → FirstUnmet (Plan m) (dueOrder (jobs works dues)) (a .said .place)
-  -- and no plan exists
-  pub none : a .said .refusal ≡ numberOf NoPlan → (rows : List Row) → Plan m (jobs works dues) rows → ⊥
-  -- one of the two is said wherever no check refuses
-  pub either : ChecksPass m works dues table → (a .said .refusal ≡ 0) ⊎ (a .said .refusal ≡ numberOf NoPlan)
+  -- refused: only and always where there is no plan
+  pub none : NoneRight m works dues table (a .said)
 
 -- Round what is already on the boards (W-207): each board is free from a given minute.
 

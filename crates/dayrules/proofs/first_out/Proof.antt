@@ -43,13 +43,17 @@ loop-less : tie.Need-loop-less Inv-loop μ-loop
 loop-less c = omega arith
 
 loop-again : tie.Need-loop-again Inv-loop μ-loop
-loop-again c = rest-good _ _ _ (omega arith) (omega arith) (sym (c .before .job-good .ensures) ∙ c .if2 .taken) ∙ c .before .before .before .before .before .before .loop .inv
+loop-again c =
+    let at-loop = c .before .before .before .before .before .before in
+    rest-good _ _ _ (omega arith) (omega arith) (sym (c .before .job-good .ensures) ∙ c .if2 .taken) ∙ at-loop .loop .inv
 
 add-result : tie.Need-add-result Inv-loop μ-loop
 add-result c = omega arith
 
 returns-2 : tie.Need-returns-2 Inv-loop μ-loop
-returns-2 c = rest-bad _ _ _ (omega arith) (omega arith) (sym (c .before .job-good .ensures) ∙ c .if2 .left) ∙ c .before .before .before .before .before .before .loop .inv
+returns-2 c =
+    let at-loop = c .before .before .before .before .before .before in
+    rest-bad _ _ _ (omega arith) (omega arith) (sym (c .before .job-good .ensures) ∙ c .if2 .left) ∙ at-loop .loop .inv
 
 returns-3 : tie.Need-returns-3 Inv-loop μ-loop
 returns-3 c = sym (rest-works-end _ _ _ (c .loop-test .left)) ∙ c .before .loop .inv

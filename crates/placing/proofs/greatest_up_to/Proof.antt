@@ -10,7 +10,8 @@ use Rattle.placing.proofs.greatest_up_to.Statement.{statement}
 use Rattle.placing.proofs.greatest_up_to.Tie as tie
 
 abbrev Inv-loop : tie.InvT-loop
-Inv-loop limit due free board₀ best₀ i₀ board best i = scanRest (greaterUpTo limit) due free i board best ≡ greatestUpTo limit (rooms due free)
+Inv-loop limit due free board₀ best₀ i₀ board best i = scanRest (greaterUpTo limit) due free i board best ≡ greatestUpTo limit
+    (rooms due free)
 
 abbrev μ-loop : tie.MeasureT-loop
 μ-loop limit due free board₀ best₀ i₀ board best i = length free - i
@@ -37,7 +38,11 @@ loop-less : tie.Need-loop-less Inv-loop μ-loop
 loop-less c = omega arith
 
 loop-again : tie.Need-loop-again Inv-loop μ-loop
-loop-again c = scan-yes _ _ _ _ _ _ _ (c .before .before .room .ensures) (omega arith) (sym (c .before .greater-up-to .ensures) ∙ c .if1 .taken) ∙ c .before .before .before .before .before .loop .inv
+loop-again c =
+    let at-room = c .before .before in
+    let at-loop = at-room .before .before .before in
+    scan-yes _ _ _ _ _ _ _ (at-room .room .ensures) (omega arith) (sym (c .before .greater-up-to .ensures) ∙ c .if1 .taken)
+    ∙ at-loop .loop .inv
 
 add-i-2 : tie.Need-add-i-2 Inv-loop μ-loop
 add-i-2 c = omega arith
@@ -46,7 +51,11 @@ loop-less-2 : tie.Need-loop-less-2 Inv-loop μ-loop
 loop-less-2 c = omega arith
 
 loop-again-2 : tie.Need-loop-again-2 Inv-loop μ-loop
-loop-again-2 c = scan-no _ _ _ _ _ _ _ (c .before .before .room .ensures) (omega arith) (sym (c .before .greater-up-to .ensures) ∙ c .if1 .left) ∙ c .before .before .before .before .before .loop .inv
+loop-again-2 c =
+    let at-room = c .before .before in
+    let at-loop = at-room .before .before .before in
+    scan-no _ _ _ _ _ _ _ (at-room .room .ensures) (omega arith) (sym (c .before .greater-up-to .ensures) ∙ c .if1 .left)
+    ∙ at-loop .loop .inv
 
 returns : tie.Need-returns Inv-loop μ-loop
 returns c = scan-end _ _ _ _ _ _ (c .loop-test .left) ∙ c .before .loop .inv

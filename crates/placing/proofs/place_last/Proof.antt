@@ -13,15 +13,22 @@ same-length c = search needs
 
 returns : tie.Need-returns
 returns c =
-    let a = c .before .before .before .before .before .args in
-    last-none (now (a .free)) (now (a .table)) (a .number) (a .work) (a .due) (a .at) (c .before .most-room .result) (c .before .most-room .ensures) (c .if1 .taken)
+    let start = c .before .before .before .before .before in
+    let a = start .args in
+    last-none (now (a .free)) (now (a .table)) (a .number) (a .work) (a .due) (a .at) (c .before .most-room .result)
+    (c .before .most-room .ensures) (c .if1 .taken)
 
 add-row-requires : tie.Need-add-row-requires
 add-row-requires c κs =
-    let start = c .before .before .before .before .before .before .before in
+    let at-if1 = c .before .before in
+    let at-most-room = at-if1 .before in
+    let at-slice-known = at-most-room .before .before .before in
+    let start = at-slice-known .before in
     let a = start .args in
-    let most = c .before .before .before .most-room in
-    greatest-ready (now (a .free)) (now (a .table)) (a .number) (a .work) (a .due) (a .at) (most .result) (a .due) (a .work) (start .pre) (most .ensures) (c .before .before .if1 .left) (start .fits .due) (c .before .before .before .before .before .before .slice-known .given (most .result .board))
+    let most = at-most-room .most-room in
+    greatest-ready (now (a .free)) (now (a .table)) (a .number) (a .work) (a .due) (a .at) (most .result) (a .due) (a .work)
+    (start .pre) (most .ensures) (at-if1 .if1 .left) (start .fits .due)
+    (at-slice-known .slice-known .given (most .result .board))
 
 same-length-2 : tie.Need-same-length-2
 same-length-2 c = search needs
@@ -31,9 +38,14 @@ same-length-3 c = search needs
 
 returns-2 : tie.Need-returns-2
 returns-2 c =
-    let a = c .before .before .before .before .before .before .before .before .before .before .before .before .args in
-    let most = c .before .before .before .before .before .before .before .before .most-room in
-    last-wrote (now (a .free)) (now (a .table)) (a .number) (a .work) (a .due) (a .at) (most .result) _ _ (c .before .before .before .before .add-row .ensures .0) (c .before .before .before .before .add-row .ensures .1) (most .ensures) (c .before .before .before .before .before .before .before .if1 .left)
+    let at-add-row = c .before .before .before .before in
+    let at-if1 = at-add-row .before .before .before in
+    let at-most-room = at-if1 .before in
+    let start = at-most-room .before .before .before .before in
+    let a = start .args in
+    let most = at-most-room .most-room in
+    last-wrote (now (a .free)) (now (a .table)) (a .number) (a .work) (a .due) (a .at) (most .result) _ _
+    (at-add-row .add-row .ensures .0) (at-add-row .add-row .ensures .1) (most .ensures) (at-if1 .if1 .left)
 
 pub place-last-spec : {M : Type 1} → statement M
 place-last-spec =

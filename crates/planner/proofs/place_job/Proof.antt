@@ -17,7 +17,10 @@ same-length-2 : tie.Need-same-length-2
 same-length-2 c = search needs
 
 returns : tie.Need-returns
-returns c = by-step-1 _ _ _ _ _ _ _ _ _ (c .before .before .before .before .before .before .before .if1 .taken) (c .before .before .before .before .place-last .ensures)
+returns c =
+    let at-place-last = c .before .before .before .before in
+    let at-if1 = at-place-last .before .before .before in
+    by-step-1 _ _ _ _ _ _ _ _ _ (at-if1 .if1 .taken) (at-place-last .place-last .ensures)
 
 same-length-3 : tie.Need-same-length-3
 same-length-3 c = search needs
@@ -26,7 +29,10 @@ same-length-4 : tie.Need-same-length-4
 same-length-4 c = search needs
 
 returns-2 : tie.Need-returns-2
-returns-2 c = by-other-steps _ _ _ _ _ _ _ _ _ (c .before .before .before .before .before .before .before .if1 .left) (c .before .before .before .before .place-other .ensures)
+returns-2 c =
+    let at-place-other = c .before .before .before .before in
+    let at-if1 = at-place-other .before .before .before in
+    by-other-steps _ _ _ _ _ _ _ _ _ (at-if1 .if1 .left) (at-place-other .place-other .ensures)
 
 pub place-job-spec : {M : Type 1} → statement M
 place-job-spec =

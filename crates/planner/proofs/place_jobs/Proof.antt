@@ -33,40 +33,76 @@ record-due-requires : tie.Need-record-due-requires Inv-loop μ-loop
 record-due-requires c κs = search needs
 
 add-place-job : tie.Need-add-place-job Inv-loop μ-loop
-add-place-job c = omega (arith, c .before .before .before .before .before .before .before .before .before .good)
+add-place-job c =
+    let start = c .before .before .before .before .before .before .before .before .before in
+    omega (arith, start .good)
 
 place-job-requires : tie.Need-place-job-requires Inv-loop μ-loop
-place-job-requires c κs = ready _ _ _ _ _ _ _ (c .before .before .before .before .before .before .before .loop .inv) (c .before .before .before .before .before .before .before .before .before .before .before .pre) (c .before .before .before .before .before .before .loop-test .taken)
+place-job-requires c κs =
+    let at-loop-test = c .before .before .before .before .before .before in
+    let at-loop = at-loop-test .before in
+    let start = at-loop .before .before .before .before in
+    ready _ _ _ _ _ _ _ (at-loop .loop .inv) (start .pre) (at-loop-test .loop-test .taken)
 
 refused-requires : tie.Need-refused-requires Inv-loop μ-loop
 refused-requires c κs = search needs
 
 same-length : tie.Need-same-length Inv-loop μ-loop
-same-length c = c .before .before .before .before .before .before .place-job .kept .1 .1 .1 .1 .0 ∙ c .before .before .before .before .before .before .before .before .before .before .before .before .before .before .loop .inv .free-long
+same-length c =
+    let at-place-job = c .before .before .before .before .before .before in
+    let at-loop = at-place-job .before .before .before .before .before .before .before .before in
+    at-place-job .place-job .kept .1 .1 .1 .1 .0 ∙ at-loop .loop .inv .free-long
 
 same-length-2 : tie.Need-same-length-2 Inv-loop μ-loop
-same-length-2 c = c .before .before .before .before .before .before .place-job .kept .1 .1 .1 .1 .1 .0 ∙ c .before .before .before .before .before .before .before .before .before .before .before .before .before .before .loop .inv .table-long
+same-length-2 c =
+    let at-place-job = c .before .before .before .before .before .before in
+    let at-loop = at-place-job .before .before .before .before .before .before .before .before in
+    at-place-job .place-job .kept .1 .1 .1 .1 .1 .0 ∙ at-loop .loop .inv .table-long
 
 returns : tie.Need-returns Inv-loop μ-loop
 returns c =
+    let at-place-job = c .before .before .before .before .before .before in
+    let at-record-due = at-place-job .before .before .before in
+    let at-record-work = at-record-due .before in
+    let at-record-number = at-record-work .before in
+    let at-loop-test = at-record-number .before .before in
+    let at-loop = at-loop-test .before in
     rw (c .refused .ensures)
-    (told-stop _ _ _ _ _ _ _ (c .before .before .before .before .before .before .before .before .before .before .before .before .before .before .loop .inv) (c .before .before .before .before .before .before .before .before .before .before .before .before .before .loop-test .taken) _ refl _ (job-read _ _ _ _ (c .before .before .before .before .before .before .before .before .before .before .before .record-number .ensures) (c .before .before .before .before .before .before .before .before .before .before .record-work .ensures) (c .before .before .before .before .before .before .before .before .before .record-due .ensures)) (sym (c .before .before .before .before .before .before .place-job .ensures .count) ∙ c .before .if1 .taken) _)
+    (told-stop _ _ _ _ _ _ _ (at-loop .loop .inv) (at-loop-test .loop-test .taken) _ refl _
+    (job-read _ _ _ _ (at-record-number .record-number .ensures) (at-record-work .record-work .ensures)
+    (at-record-due .record-due .ensures)) (sym (at-place-job .place-job .ensures .count) ∙ c .before .if1 .taken) _)
 
 loop-again : tie.Need-loop-again Inv-loop μ-loop
 loop-again c =
-    so-far-again _ _ _ _ _ _ _ (c .before .before .before .before .before .before .before .before .before .before .before .before .before .loop .inv) (c .before .before .before .before .before .before .before .before .before .before .before .before .loop-test .taken) _ refl _ (job-read _ _ _ _ (c .before .before .before .before .before .before .before .before .before .before .record-number .ensures) (c .before .before .before .before .before .before .before .before .before .record-work .ensures) (c .before .before .before .before .before .before .before .before .record-due .ensures)) (c .before .before .before .before .before .before .before .before .before .before .before .before .before .before .before .before .before .pre) _ _ _ (c .before .before .before .before .before .place-job .kept .1 .1 .1 .1 .0) (c .before .before .before .before .before .place-job .ensures) (c .if1 .left)
+    let at-place-job = c .before .before .before .before .before in
+    let at-record-due = at-place-job .before .before .before in
+    let at-record-work = at-record-due .before in
+    let at-record-number = at-record-work .before in
+    let at-loop-test = at-record-number .before .before in
+    let at-loop = at-loop-test .before in
+    let start = at-loop .before .before .before .before in
+    so-far-again _ _ _ _ _ _ _ (at-loop .loop .inv) (at-loop-test .loop-test .taken) _ refl _
+    (job-read _ _ _ _ (at-record-number .record-number .ensures) (at-record-work .record-work .ensures)
+    (at-record-due .record-due .ensures)) (start .pre) _ _ _ (at-place-job .place-job .kept .1 .1 .1 .1 .0)
+    (at-place-job .place-job .ensures) (c .if1 .left)
 
 add-count : tie.Need-add-count Inv-loop μ-loop
-add-count c = omega (arith, loop-again c .bounded, c .before .before .before .before .before .before .before .before .before .before .before .before .before .before .before .before .before .pre .jobs)
+add-count c =
+    let start = c .before .before .before .before .before .before .before .before .before .before .before .before .before .before .before .before .before in
+    omega (arith, loop-again c .bounded, start .pre .jobs)
 
 add-i : tie.Need-add-i Inv-loop μ-loop
-add-i c = omega (arith, c .before .before .before .before .before .before .before .before .before .before .before .before .before .before .before .before .before .pre .jobs)
+add-i c =
+    let start = c .before .before .before .before .before .before .before .before .before .before .before .before .before .before .before .before .before in
+    omega (arith, start .pre .jobs)
 
 loop-less : tie.Need-loop-less Inv-loop μ-loop
 loop-less c = omega arith
 
 cast-t21 : tie.Need-cast-t21 Inv-loop μ-loop
-cast-t21 c = omega (arith, c .before .loop .inv .bounded, c .before .loop .inv .within, c .before .before .before .before .before .pre .jobs)
+cast-t21 c =
+    let start = c .before .before .before .before .before in
+    omega (arith, c .before .loop .inv .bounded, c .before .loop .inv .within, start .pre .jobs)
 
 same-length-3 : tie.Need-same-length-3 Inv-loop μ-loop
 same-length-3 c = c .before .loop .inv .free-long

@@ -15,8 +15,9 @@ array-borrow-prefix-free c =
 
 slice-aggregate-plan-from : tie.Need-slice-aggregate-plan-from
 slice-aggregate-plan-from c =
-    let a = c .before .before .before .before .args in
-    prefix-long (a .boards) _ (boards-within (a .boards) (now (a .work)) (now (a .due)) (now (a .table)) (c .before .before .before .before .pre))
+    let start = c .before .before .before .before in
+    let a = start .args in
+    prefix-long (a .boards) _ (boards-within (a .boards) (now (a .work)) (now (a .due)) (now (a .table)) (start .pre))
 
 slice-aggregate-plan-from-2 : tie.Need-slice-aggregate-plan-from-2
 slice-aggregate-plan-from-2 c = search needs
@@ -26,18 +27,21 @@ slice-aggregate-plan-from-3 c = search needs
 
 plan-from-requires : tie.Need-plan-from-requires
 plan-from-requires c κs =
-    let a = c .before .before .before .before .before .before .before .args in
-    (day-free (a .boards) (now (a .work)) (now (a .due)) (now (a .table)) (c .before .before .before .before .before .before .before .pre) _ refl, (omega arith, omega arith))
+    let start = c .before .before .before .before .before .before .before in
+    let a = start .args in
+    (day-free (a .boards) (now (a .work)) (now (a .due)) (now (a .table)) (start .pre) _ refl, (omega arith, omega arith))
 
 same-length : tie.Need-same-length
 same-length c = search needs
 
 returns : tie.Need-returns
 returns c =
-    let a = c .before .before .before .before .before .before .before .before .before .before .before .before .before .args in
-    let same = placing-zeros (a .boards) (now (a .work)) (now (a .due)) (now (a .table)) (c .before .before .before .before .before .before .before .before .before .before .before .before .before .pre) _ refl in (
-      c .before .before .before .before .before .plan-from .ensures .0 ∙ ap (λ (p : Placing). afterPlacing p (now (a .table)) .said) same,
-      c .before .before .before .before .before .plan-from .ensures .1 ∙ ap (λ (p : Placing). afterPlacing p (now (a .table)) .table) same,
+    let at-plan-from = c .before .before .before .before .before in
+    let start = at-plan-from .before .before .before .before .before .before .before .before in
+    let a = start .args in
+    let same = placing-zeros (a .boards) (now (a .work)) (now (a .due)) (now (a .table)) (start .pre) _ refl in (
+      at-plan-from .plan-from .ensures .0 ∙ ap (λ (p : Placing). afterPlacing p (now (a .table)) .said) same,
+      at-plan-from .plan-from .ensures .1 ∙ ap (λ (p : Placing). afterPlacing p (now (a .table)) .table) same,
     )
 
 pub plan-day-spec : {M : Type 1} → statement M

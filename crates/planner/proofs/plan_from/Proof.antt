@@ -16,13 +16,17 @@ slice-relend-prefix-due-order : tie.Need-slice-relend-prefix-due-order
 slice-relend-prefix-due-order c = search needs
 
 slice-aggregate-due-order : tie.Need-slice-aggregate-due-order
-slice-aggregate-due-order c = prefix-long _ _ (omega (arith, c .before .before .before .before .before .before .before .pre))
+slice-aggregate-due-order c =
+    let start = c .before .before .before .before .before .before .before in
+    prefix-long _ _ (omega (arith, start .pre))
 
 slice-relend-prefix-due-order-2 : tie.Need-slice-relend-prefix-due-order-2
 slice-relend-prefix-due-order-2 c = search needs
 
 slice-aggregate-due-order-2 : tie.Need-slice-aggregate-due-order-2
-slice-aggregate-due-order-2 c = prefix-long _ _ (omega (arith, c .before .before .before .before .before .before .before .before .pre))
+slice-aggregate-due-order-2 c =
+    let start = c .before .before .before .before .before .before .before .before in
+    prefix-long _ _ (omega (arith, start .pre))
 
 due-order-requires : tie.Need-due-order-requires
 due-order-requires c κs =
@@ -38,23 +42,32 @@ due-order-requires c κs =
     )
 
 -- as many records as jobs
-ordered-long : (c : tie.After-due-order) → length (c .due-order .last .1 .1 .0) ≡ length (now (c .before .before .before .before .before .before .before .before .before .args .work))
-ordered-long c = c .due-order .kept .1 .1 .0 ∙ sym (prefix-long _ _ (omega (arith, c .before .before .before .before .before .before .before .before .before .pre)))
+ordered-long : (c : tie.After-due-order) → length (c .due-order .last .1 .1 .0) ≡ length
+    (now (c .before .before .before .before .before .before .before .before .before .args .work))
+ordered-long c =
+    let start = c .before .before .before .before .before .before .before .before .before in
+    c .due-order .kept .1 .1 .0 ∙ sym (prefix-long _ _ (omega (arith, start .pre)))
 
 slice-reshare-prefix-plan-records : tie.Need-slice-reshare-prefix-plan-records
 slice-reshare-prefix-plan-records c = search needs
 
 slice-aggregate-plan-records : tie.Need-slice-aggregate-plan-records
 slice-aggregate-plan-records c =
-    let start = c .before .before .before .before .before .before .before .before .before .before .before .before .before .before in
+    let at-due-order = c .before .before .before .before .before in
+    let start = at-due-order .before .before .before .before .before .before .before .before .before in
     let a = start .args in
-    front-long (now (a .free)) (now (a .work)) (now (a .due)) (now (a .table)) (start .pre .0) (c .before .before .before .before .before .due-order .last .1 .1 .0) (drop (length (now (a .work))) (now (a .records))) (ordered-long (c .before .before .before .before .before))
+    front-long (now (a .free)) (now (a .work)) (now (a .due)) (now (a .table)) (start .pre .0)
+    (at-due-order .due-order .last .1 .1 .0) (drop (length (now (a .work))) (now (a .records)))
+    (ordered-long at-due-order)
 
 plan-records-requires : tie.Need-plan-records-requires
 plan-records-requires c κs =
-    let start = c .before .before .before .before .before .before .before .before .before .before .before .before .before .before .before .before in
+    let at-due-order = c .before .before .before .before .before .before .before in
+    let start = at-due-order .before .before .before .before .before .before .before .before .before in
     let a = start .args in
-    day-enough (now (a .free)) (now (a .work)) (now (a .due)) (now (a .table)) (start .pre .0) (c .before .before .before .before .before .before .before .due-order .last .1 .1 .0) (drop (length (now (a .work))) (now (a .records))) (ordered-long (c .before .before .before .before .before .before .before))
+    day-enough (now (a .free)) (now (a .work)) (now (a .due)) (now (a .table)) (start .pre .0)
+    (at-due-order .due-order .last .1 .1 .0) (drop (length (now (a .work))) (now (a .records)))
+    (ordered-long at-due-order)
 
 same-length : tie.Need-same-length
 same-length c = search needs
@@ -70,11 +83,17 @@ same-length-4 c = search needs
 
 returns : tie.Need-returns
 returns c =
-    let start = c .before .before .before .before .before .before .before .before .before .before .before .before .before .before .before .before .before .before .before .before .before in
+    let at-plan-records = c .before .before .before .before in
+    let at-due-order = at-plan-records .before .before .before .before .before .before .before .before in
+    let start = at-due-order .before .before .before .before .before .before .before .before .before in
     let a = start .args in
-    let same = day-jobs (now (a .free)) (now (a .work)) (now (a .due)) (now (a .table)) (start .pre .0) (c .before .before .before .before .before .before .before .before .before .before .before .before .due-order .last .1 .1 .0) (drop (length (now (a .work))) (now (a .records))) (ordered-long (c .before .before .before .before .before .before .before .before .before .before .before .before)) (c .before .before .before .before .before .before .before .before .before .before .before .before .due-order .ensures) in (
-      c .before .before .before .before .plan-records .ensures .0 ∙ ap (λ (js : List Job). afterPlacing (placeAll [] (now (a .free)) js) (now (a .table)) .said) same,
-      c .before .before .before .before .plan-records .ensures .1 ∙ ap (λ (js : List Job). afterPlacing (placeAll [] (now (a .free)) js) (now (a .table)) .table) same,
+    let same = day-jobs (now (a .free)) (now (a .work)) (now (a .due)) (now (a .table)) (start .pre .0)
+    (at-due-order .due-order .last .1 .1 .0) (drop (length (now (a .work))) (now (a .records)))
+    (ordered-long at-due-order) (at-due-order .due-order .ensures) in (
+      at-plan-records .plan-records .ensures .0 ∙ ap (λ (js : List Job). afterPlacing (placeAll [] (now (a .free)) js)
+          (now (a .table)) .said) same,
+      at-plan-records .plan-records .ensures .1 ∙ ap (λ (js : List Job). afterPlacing (placeAll [] (now (a .free)) js)
+          (now (a .table)) .table) same,
     )
 
 pub plan-from-spec : {M : Type 1} → statement M

@@ -28,8 +28,14 @@ same-length-2 c = search needs
 returns : tie.Need-returns
 unfolding cleared
 returns c =
-    let told = c .before .before .before .before .before .before .before .before .place-jobs .ensures in
-    (told .said, c .before .before .clear-from .ensures ∙ told-cleared _ (now (c .before .before .before .before .before .before .before .before .before .before .before .before .before .before .args .table)) _ _ told (c .before .before .before .before .before .before .before .before .place-jobs .kept .1 .1 .0))
+    let at-clear-from = c .before .before in
+    let at-place-jobs = at-clear-from .before .before .before .before .before .before in
+    let start = at-place-jobs .before .before .before .before .before .before in
+    let told = at-place-jobs .place-jobs .ensures in (
+      told .said,
+      at-clear-from .clear-from .ensures ∙ told-cleared _ (now (start .args .table)) _ _ told
+          (at-place-jobs .place-jobs .kept .1 .1 .0),
+    )
 
 pub plan-records-spec : {M : Type 1} → statement M
 plan-records-spec =
