@@ -40,3 +40,12 @@ $(OUT)/paint: tests/stack/paint.c include/tuffbasket.h $(LIB) | $(OUT)
 
 $(OUT)/bench: bench/bench.c bench/plain.c bench/plain.h include/tuffbasket.h second/border/second.h $(LIB) $(SECOND) | $(OUT)
 	$(CC) $(CFLAGS) bench/bench.c bench/plain.c $(LIB) $(SECOND) $(RUST_NEEDS) -o $@
+
+# The comparisons on lists and files; the pair's archive is linked here alone, and never ships.
+target/staticlib/libpair.a: crates.txt $(shell find crates -name '*.rt' -o -name '*.antt')
+	rt staticlib pair
+	@touch $@
+
+target/c/compare: $(wildcard second/compare/*.rs second/src/*.rs) $(LIB) target/staticlib/libpair.a | target/c
+	rustc -O --edition 2021 -D warnings second/compare/main.rs \
+	    -L target/staticlib -l static=border -l static=pair -o $@
