@@ -182,6 +182,25 @@ static void tight_day(uint32_t m, uint32_t n)
     plan_it();
 }
 
+/* The same plan in 2,000 rows, the most there may be: rows are cut in two that touch, then all change places. */
+static void cut_and_shuffle(void)
+{
+    for (uint32_t i = 0; rows < TUFFBASKET_MOST_ROWS; i = (i + 1) % rows) {
+        uint32_t *row = table + 4 * i, *cut = table + 4 * rows, middle = row[2] + (row[3] - row[2]) / 2;
+        if (middle == row[2])
+            continue;
+        memcpy(cut, row, 4 * sizeof *row);
+        row[3] = cut[2] = middle;
+        rows++;
+    }
+    for (uint32_t i = rows; i-- > 1;) {
+        uint32_t *a = table + 4 * i, *b = table + 4 * draw(i + 1), t[4];
+        memcpy(t, a, sizeof t);
+        memmove(a, b, sizeof t);
+        memcpy(b, t, sizeof t);
+    }
+}
+
 static void add(const char *text)
 {
     size_t more = strlen(text);
@@ -228,6 +247,9 @@ static void against_c(void)
         line("plan", days[i].name, archive_plan, plain_plan_day);
         line("check", days[i].name, archive_check, plain_check_day);
     }
+    tight_day(64, 1000);
+    cut_and_shuffle();
+    line("check", "2,000 rows in any order", archive_check, plain_check_day);
     tight_day(64, 1000);
     line("write", "the rows of 1,000 jobs", archive_write, plain_write);
     line("noise", "C against C: check", plain_check_day, plain_check_day);
