@@ -248,13 +248,7 @@ pub fn leave(state: State) -> State
 }
 
 // A number, taken for what was wanted: the boards, a group's due, a job's work or a job's due.
-pub fn take_number(
-    state: State,
-    n: u32,
-    work: &mut [u32],
-    due: &mut [u32],
-    least: &mut [u32],
-) -> State
+pub fn take_in(state: State, n: u32, work: &mut [u32], due: &mut [u32], least: &mut [u32]) -> State
     requires { ⌜ Bounded state ⌝ }
     ensures { λ s. ⌜ Acts state (Turn.Take n) (now (work .entry)) (now (due .entry)) (now (least .entry)) s (now (work .exit)) (now (due .exit)) (now (least .exit)) ⌝ }
 {

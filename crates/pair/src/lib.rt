@@ -10,7 +10,7 @@ use grammar::answer;
 use grammar::decide;
 use grammar::leave;
 use grammar::smaller;
-use grammar::take_number;
+use grammar::take_in;
 use grammar::untouched;
 use grammar::want_next;
 use lexer::next_token;
@@ -50,7 +50,7 @@ fn step(
         Turn::Stop(refusal, place) => Reached::Off(Ended::Refused(refusal, place)),
         Turn::Done => Reached::Off(Ended::Accepted(state.boards, state.jobs)),
         Turn::Want(wanted) => Reached::On(want_next(state, wanted), seen.next),
-        Turn::Take(n) => Reached::On(take_number(state, n, work, due, least), seen.next),
+        Turn::Take(n) => Reached::On(take_in(state, n, work, due, least), seen.next),
         Turn::Leave => Reached::On(leave(state), seen.next),
     }
 }

@@ -8,7 +8,7 @@ use grammar::answer;
 use grammar::decide;
 use grammar::leave;
 use grammar::smaller;
-use grammar::take_number;
+use grammar::take_in;
 use grammar::untouched;
 use grammar::want_next;
 use lexer::next_token;
@@ -50,7 +50,7 @@ fn read_tokens(file: &[u8], work: &mut [u32], due: &mut [u32], least: &mut [u32]
                 at = seen.next;
             }
             Turn::Take(n) => {
-                state = take_number(state, n, work, due, least);
+                state = take_in(state, n, work, due, least);
                 at = seen.next;
             }
             Turn::Leave => {

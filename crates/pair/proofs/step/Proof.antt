@@ -27,8 +27,8 @@ want-next-requires c κs = search needs
 enum-known-turn-3 : tie.Need-enum-known-turn-3
 enum-known-turn-3 c = search needs
 
-take-number-requires : tie.Need-take-number-requires
-take-number-requires c κs =
+take-in-requires : tie.Need-take-in-requires
+take-in-requires c κs =
     let c12 = c .before .before .before .before .before .before .before .before .before .before .before .before in
     stands-bounded (c12 .args .file .now) (c12 .args .at) (c12 .args .state) (c12 .args .work .now) (c12 .args .due .now) (c12 .args .least .now) (c12 .pre .stands)
 
@@ -74,7 +74,7 @@ returns-4 c =
     let c13 = c11 .before .before in
     let c14 = c13 .before in
     let c19 = c14 .before .before .before .before .before in
-    step-on (c19 .args .file .now) (c19 .args .at) (c19 .args .state) (c19 .args .work .now) (c19 .args .due .now) (c19 .args .least .now) (c19 .pre) (c14 .next-token .result) (c14 .next-token .ensures) (c13 .decide .result) (c13 .decide .ensures) (Take (c11 .turn3 .given .0 .0)) (c11 .turn3 .given .1) tt (c6 .take-number .result) (c6 .take-number .last .1 .1 .0) (c6 .take-number .last .1 .1 .1 .0) (c6 .take-number .last .1 .1 .1 .1 .0) (c6 .take-number .ensures)
+    step-on (c19 .args .file .now) (c19 .args .at) (c19 .args .state) (c19 .args .work .now) (c19 .args .due .now) (c19 .args .least .now) (c19 .pre) (c14 .next-token .result) (c14 .next-token .ensures) (c13 .decide .result) (c13 .decide .ensures) (Take (c11 .turn3 .given .0 .0)) (c11 .turn3 .given .1) tt (c6 .take-in .result) (c6 .take-in .last .1 .1 .0) (c6 .take-in .last .1 .1 .1 .0) (c6 .take-in .last .1 .1 .1 .1 .0) (c6 .take-in .ensures)
 
 returns-5 : tie.Need-returns-5
 returns-5 c =
@@ -94,7 +94,7 @@ step-spec =
     enum-known-turn-2
     want-next-requires
     enum-known-turn-3
-    take-number-requires
+    take-in-requires
     enum-told-2
     leave-requires
     returns

@@ -104,8 +104,8 @@ loop-again c =
 enum-known-turn-3 : tie.Need-enum-known-turn-3 Inv-loop μ-loop
 enum-known-turn-3 c = search needs
 
-take-number-requires : tie.Need-take-number-requires Inv-loop μ-loop
-take-number-requires c κs =
+take-in-requires : tie.Need-take-in-requires Inv-loop μ-loop
+take-in-requires c κs =
     let c8 = c .before .before .before .before .before .before .before .before in
     let c13 = c8 .before .before .before .before .before in
     stands-bounded (c13 .args .file .now) (c8 .loop .at) (c8 .loop .state) (c8 .loop .work) (c8 .loop .due) (c8 .loop .least) (c8 .loop .inv .3)
@@ -128,7 +128,7 @@ loop-again-2 c =
     let c14 = c13 .before in
     let c15 = c14 .before in
     let c20 = c15 .before .before .before .before .before in
-    (c6 .take-number .kept .1 .1 .0 ∙ c15 .loop .inv .0, c6 .take-number .kept .1 .1 .1 .0 ∙ c15 .loop .inv .1, c6 .take-number .kept .1 .1 .1 .1 .0 ∙ c15 .loop .inv .2, stands-on (c20 .args .file .now) (c15 .loop .at) (c15 .loop .state) (c15 .loop .work) (c15 .loop .due) (c15 .loop .least) (c15 .loop .inv .3) (c14 .next-token .result) (c14 .next-token .ensures) (c13 .decide .result) (c13 .decide .ensures) (Take (c11 .turn3 .given .0 .0)) (c11 .turn3 .given .1) tt (c6 .take-number .result) (c6 .take-number .last .1 .1 .0) (c6 .take-number .last .1 .1 .1 .0) (c6 .take-number .last .1 .1 .1 .1 .0) (omega (arith, c20 .pre .0, c15 .loop .inv .0)) (omega (arith, c20 .pre .1, c15 .loop .inv .1)) (omega (arith, c20 .pre .2, c15 .loop .inv .2)) (c6 .take-number .ensures))
+    (c6 .take-in .kept .1 .1 .0 ∙ c15 .loop .inv .0, c6 .take-in .kept .1 .1 .1 .0 ∙ c15 .loop .inv .1, c6 .take-in .kept .1 .1 .1 .1 .0 ∙ c15 .loop .inv .2, stands-on (c20 .args .file .now) (c15 .loop .at) (c15 .loop .state) (c15 .loop .work) (c15 .loop .due) (c15 .loop .least) (c15 .loop .inv .3) (c14 .next-token .result) (c14 .next-token .ensures) (c13 .decide .result) (c13 .decide .ensures) (Take (c11 .turn3 .given .0 .0)) (c11 .turn3 .given .1) tt (c6 .take-in .result) (c6 .take-in .last .1 .1 .0) (c6 .take-in .last .1 .1 .1 .0) (c6 .take-in .last .1 .1 .1 .1 .0) (omega (arith, c20 .pre .0, c15 .loop .inv .0)) (omega (arith, c20 .pre .1, c15 .loop .inv .1)) (omega (arith, c20 .pre .2, c15 .loop .inv .2)) (c6 .take-in .ensures))
 
 enum-told-2 : tie.Need-enum-told-2 Inv-loop μ-loop
 enum-told-2 c = search needs
@@ -177,7 +177,7 @@ read-tokens-spec =
     loop-less
     loop-again
     enum-known-turn-3
-    take-number-requires
+    take-in-requires
     loop-less-2
     loop-again-2
     enum-told-2
