@@ -20,7 +20,7 @@ use Rattle.rules.specs.Basics.{pick, isEmpty, zeros, mostJobs}
 use Rattle.rules.specs.Orders.{Reading, Step, go, stop, leastDue, upTo, atomNumber, number, word, leave}
 use Rattle.laws.specs.Tests.{pick-yes, pick-no}
 use Rattle.grammar.specs.declared.State.{State}
-use Rattle.grammar.specs.declared.Act.the-variants.{Want, Take}
+use Rattle.grammar.specs.declared.Turn.the-variants.{Want, Take}
 use Rattle.grammar.specs.Turns.{misplacedAs, taken, left, acted, capped, Held, Holds, deepest, fullest, half, Sound}
 
 -- ---- where a number or a word is wanted
@@ -130,7 +130,7 @@ least-round due level round least n e h =
     let q : round ≡ min due round = omega arith in
     q ∙ sym (capped-round due level round least n e)
 
--- ---- what the state and the lists hold after an act
+-- ---- what the state and the lists hold after a turn
 front-more : (l xs : List ℕ) (n v : ℕ) → take (length xs) l ≡ xs → length xs ≡ n → n < length l → take (length (xs ++ (v ∷ []))) (set l n v) ≡ xs ++ (v ∷ [])
 front-more l xs n v t e h =
     let q : length (xs ++ (v ∷ [])) ≡ suc n = length-append xs (v ∷ []) ∙ add-one (length xs) ∙ ap suc e in

@@ -23,11 +23,10 @@ use Rattle.laws.specs.Tests.{decided}
 use Rattle.lexer.specs.Scan.{tokensAt, isLast, behind, NextToken}
 use Rattle.lexer.specs.declared.Seen.{Seen}
 use Rattle.grammar.specs.declared.State.{State}
-use Rattle.grammar.specs.declared.Act.{Act}
 use Rattle.grammar.specs.declared.Turn.{Turn}
-use Rattle.grammar.specs.declared.Turn.the-variants.{Go, Stop, Done}
+use Rattle.grammar.specs.declared.Turn.the-variants.{Want, Take, Leave, Stop, Done}
 use Rattle.grammar.specs.declared.Ended.the-variants.{Refused, Accepted}
-use Rattle.grammar.specs.Turns.{acted, meant, deepest, fullest, half, Sound, Decides, Acts, Bounded, Finished, Stands}
+use Rattle.grammar.specs.Turns.{acted, meant, Goes, deepest, fullest, half, Sound, Decides, Acts, Changes, Bounded, Finished, Stands}
 
 -- ---- a fact of a step, from the same fact of the steps that it chooses from
 pub pick-all : {A : Type 0} (P : A → Type 0) (b : Bool) (x y : A) → (b ≡ true → P x) → (b ≡ false → P y) → P (pick b x y)
@@ -252,6 +251,18 @@ reads-first : (file : List ℕ) (at : ℕ) (seen : Seen) (r : Reading) → NextT
 unfolding reads
 reads-first file at seen r n = ap (reads r) (n .tells)
 
+goes-meant : (r : Reading) (t : Turn) → Goes t → meant r t ≡ go (acted r t)
+unfolding meant
+goes-meant r (Want w) g = refl
+goes-meant r (Take n) g = refl
+goes-meant r Leave g = refl
+goes-meant r (Stop refusal place) g = absurd g
+goes-meant r Done g = absurd g
+
+-- where the state alone is changed, the lists are any
+pub changes-acts : (s : State) (t : Turn) (s′ : State) (work due least : List ℕ) → Changes s t s′ → Acts s t work due least s′ work due least
+changes-acts s t s′ work due least c = λ r sound lw ld ll h. c r work due least h
+
 pub stands-start : (file work due least : List ℕ) → Stands file 0 (record { wanted = OrderOpen; boards = 0; level = 0; jobs = 0 }) work due least
 unfolding orderOf tokens tokensAt start deepest fullest half
 stands-start file work due least = record {
@@ -301,20 +312,22 @@ module _ (file : List ℕ) (at : ℕ) (s : State) (work due least : List ℕ) (c
           stands-bounded .few-jobs,
         )
 
-    module _ (act : Act) (g : turn ≡ Go act) where
+    module _ (act : Turn) (e : turn ≡ act) (g : Goes act) where
+      on-is : meant (c .reading) turn ≡ go (acted (c .reading) act)
+      on-is = ap (meant (c .reading)) e ∙ goes-meant (c .reading) act g
+
       pub goes : stepAt (c .reading .wanted) (c .reading) (seen .token) (seen .place) ≡ go (acted (c .reading) act)
-      unfolding meant
-      goes = step-is ∙ ap (meant (c .reading)) g
+      goes = step-is ∙ on-is
 
       pub moves-on : at < seen .next
       moves-on = n .moves (goes-on (c .reading) (seen .token) (seen .place) (acted (c .reading) act) goes)
 
       pub stands-on : (s′ : State) (work′ due′ least′ : List ℕ) → mostJobs ≤ length work → mostJobs ≤ length due → 32 ≤ length least → Acts s act work due least s′ work′ due′ least′ → Stands file (seen .next) s′ work′ due′ least′
-      unfolding meant after
+      unfolding after
       stands-on s′ work′ due′ least′ lw ld ll a = record {
         reading = acted (c .reading) act;
-        sound = follows-is (go (acted (c .reading) act)) (ap (meant (c .reading)) g);
+        sound = follows-is (go (acted (c .reading) act)) on-is;
         holds = a (c .reading) (c .sound) lw ld ll (c .holds);
-        same = ap (reads (acted (c .reading) act)) (sym (behind-on (seen .token) (tokensAt file (seen .next)) (goes-on (c .reading) (seen .token) (seen .place) (acted (c .reading) act) goes))) ∙ outcome-is (go (acted (c .reading) act)) (ap (meant (c .reading)) g);
+        same = ap (reads (acted (c .reading) act)) (sym (behind-on (seen .token) (tokensAt file (seen .next)) (goes-on (c .reading) (seen .token) (seen .place) (acted (c .reading) act) goes))) ∙ outcome-is (go (acted (c .reading) act)) on-is;
         inside = n .inside (c .inside) .1;
       }

@@ -15,10 +15,8 @@ use Rattle.rules.specs.Basics.{pick, mostJobs, mostLevels, mostBytes}
 use Rattle.rules.specs.Orders.{Reading, Step, go, stop, done, Outcome, refused, accepted, leastDue, stepAt, reads, orderOf, ReadAnswer}
 use Rattle.lexer.specs.Scan.{tokensAt}
 use Rattle.grammar.specs.declared.State.{State}
-use Rattle.grammar.specs.declared.Act.{Act}
-use Rattle.grammar.specs.declared.Act.the-variants.{Want, Take, Leave}
 use Rattle.grammar.specs.declared.Turn.{Turn}
-use Rattle.grammar.specs.declared.Turn.the-variants.{Go, Stop, Done}
+use Rattle.grammar.specs.declared.Turn.the-variants.{Want, Take, Leave, Stop, Done}
 use Rattle.grammar.specs.declared.Ended.{Ended}
 use Rattle.grammar.specs.declared.Ended.the-variants.{Refused, Accepted}
 
@@ -29,7 +27,7 @@ misplacedAs (Atom w) = NotAllowed
 misplacedAs End = Unclosed
 misplacedAs Foreign = ForeignByte
 
--- ---- what an act makes of a reading
+-- ---- what a turn makes of a reading
 -- a number, taken for what was wanted; elsewhere no number is taken
 unfoldable pub taken : Wanted → Reading → ℕ → Reading
 taken OrderOpen r n = r
@@ -47,15 +45,27 @@ unfoldable pub left : Reading → List ℕ → Reading
 left r [] = record { wanted = Finish; boards = r .boards; groups = []; works = r .works; dues = r .dues }
 left r (g ∷ gs) = record { wanted = ItemOrClose; boards = r .boards; groups = gs; works = r .works; dues = r .dues }
 
-unfoldable pub acted : Reading → Act → Reading
+unfoldable pub acted : Reading → Turn → Reading
 acted r (Want w) = record { wanted = w; boards = r .boards; groups = r .groups; works = r .works; dues = r .dues }
 acted r (Take n) = taken (r .wanted) r n
 acted r Leave = left r (r .groups)
+acted r (Stop refusal place) = r
+acted r Done = r
 
 unfoldable pub meant : Reading → Turn → Step
-meant r (Go a) = go (acted r a)
+meant r (Want w) = go (acted r (Want w))
+meant r (Take n) = go (acted r (Take n))
+meant r Leave = go (acted r Leave)
 meant r (Stop refusal place) = stop refusal place
 meant r Done = done
+
+-- a turn that does not end the reading
+abbrev pub Goes : Turn → Type 0
+Goes (Want w) = Unit {0}
+Goes (Take n) = Unit {0}
+Goes Leave = Unit {0}
+Goes (Stop refusal place) = ⊥
+Goes Done = ⊥
 
 -- ---- what the state and the lists hold of a reading
 -- the due that a job or a group gets where `least` has the least due of each group with those round it
@@ -123,18 +133,19 @@ pub record Sound (r : Reading) : Type 0 where
 abbrev pub Decides : State → Token → ℕ → Turn → Type 0
 Decides s t p turn = (r : Reading) → Sound r → r .wanted ≡ s .wanted → length (r .groups) ≡ s .level → length (r .dues) ≡ s .jobs → stepAt (r .wanted) r t p ≡ meant r turn
 
--- The act changes state and lists as it changes the reading.
-abbrev pub Acts : State → Act → List ℕ → List ℕ → List ℕ → State → List ℕ → List ℕ → List ℕ → Type 0
-Acts s a work due least s′ work′ due′ least′ =
-    (r : Reading) → Sound r → mostJobs ≤ length work → mostJobs ≤ length due → 32 ≤ length least → Holds r s work due least → Holds (acted r a) s′ work′ due′ least′
+-- State and lists are changed as the turn changes the reading.
+abbrev pub Acts : State → Turn → List ℕ → List ℕ → List ℕ → State → List ℕ → List ℕ → List ℕ → Type 0
+Acts s t work due least s′ work′ due′ least′ =
+    (r : Reading) → Sound r → mostJobs ≤ length work → mostJobs ≤ length due → 32 ≤ length least → Holds r s work due least → Holds (acted r t) s′ work′ due′ least′
+
+-- The state alone is.
+abbrev pub Changes : State → Turn → State → Type 0
+Changes s t s′ = (r : Reading) (work due least : List ℕ) → Holds r s work due least → Holds (acted r t) s′ work due least
 
 -- How a file is read: the refusal, or the boards and the lists at the front of the buffers.
 abbrev pub Finished : List ℕ → Ended → List ℕ → List ℕ → Type 0
 Finished file (Refused refusal place) work due = (orderOf file ≡ refused refusal place) × (place ≤ length file)
 Finished file (Accepted boards jobs) work due = (orderOf file ≡ accepted boards (take jobs work) (take jobs due)) × (jobs ≤ mostJobs)
-
-abbrev pub Leaves : State → State → Type 0
-Leaves s s′ = (r : Reading) (work due least : List ℕ) → Holds r s work due least → Holds (left r (r .groups)) s′ work due least
 
 -- no count is so large that one more does not fit
 pub record Bounded (s : State) : Type 0 where

@@ -2,7 +2,7 @@
 // The state is small and goes by value. The works and dues read so far stand at the front of the buffers, and for each
 // group round the place the least due of it and of the groups round it stands in an array of 32.
 // The idea of the proof: the state stands for a `Reading` of the definition; a turn means one of the definition's steps, and
-// an act changes state and lists as it changes the reading.
+// acting on it changes state and lists as it changes the reading.
 use refusals::number;
 use rules::OrderRead;
 use rules::Refusal;
@@ -16,7 +16,7 @@ ghost use lib.Dec.{eqb, ltb};
 ghost use lib.ListN.{length, take, getD, set};
 ghost use Rattle.rules.specs.Basics.{pick, zeros, mostJobs, mostLevels};
 ghost use Rattle.rules.specs.Orders.{Reading, go, stop, done, want, bracket, word, number, ending, refusedRead, afterReading};
-ghost use Rattle.grammar.specs.Turns.{acted, meant, misplacedAs, capped, Decides, Acts, Leaves, Bounded, Writable, Answers, outcomeOf};
+ghost use Rattle.grammar.specs.Turns.{acted, meant, misplacedAs, capped, Decides, Acts, Changes, Bounded, Writable, Answers, outcomeOf};
 
 // Where the reader stands.
 pub struct State {
@@ -26,16 +26,13 @@ pub struct State {
     pub jobs: usize,
 }
 
-// How the reader goes on: to the next thing wanted, with the number that was wanted, or out of the innermost group or the order.
-pub enum Act {
+// What one token leads to: on to the next thing wanted, with the number that was wanted, or out of the innermost group or the
+// order; or to the end, where a refusal comes with its place. One flat enum: the compiler stores an enum within an enum in
+// pieces and reads it back as one word, which made the reader half as slow again.
+pub enum Turn {
     Want(Wanted),
     Take(u32),
     Leave,
-}
-
-// What one token leads to; a refusal comes with its place.
-pub enum Turn {
-    Go(Act),
     Stop(Refusal, usize),
     Done,
 }
@@ -131,7 +128,7 @@ fn word_wanted(token: Token, place: usize, order: Turn, group: Turn, job: Turn) 
 
 // 01: "is refused where the grammar wants a number": 4 for an atom that is none, 2 for a bracket, 5 above the limit.
 fn number_wanted(token: Token, place: usize, limit: u32) -> Turn
-    ensures { λ t. ⌜ ((r : Reading) → meant r t ≡ number limit token place (λ n. go (acted r (Act.Take n)))) ⌝ }
+    ensures { λ t. ⌜ ((r : Reading) → meant r t ≡ number limit token place (λ n. go (acted r (Turn.Take n)))) ⌝ }
 {
     let Token::Atom(name) = token else {
         return Turn::Stop(misplaced(token), place);
@@ -142,7 +139,7 @@ fn number_wanted(token: Token, place: usize, limit: u32) -> Turn
     if limit < n {
         return Turn::Stop(Refusal::AboveLimit, place);
     }
-    Turn::Go(Act::Take(n))
+    Turn::Take(n)
 }
 
 fn end_wanted(token: Token, place: usize, ends: Turn) -> Turn
@@ -162,7 +159,7 @@ fn group_begins(level: usize, place: usize) -> Turn
     ensures { λ t. ⌜ ((r : Reading) → meant r t ≡ pick (ltb level mostLevels) (want r Wanted.GroupDue) (stop Refusal.TooDeep place)) ⌝ }
 {
     if level < 32 {
-        return Turn::Go(Act::Want(Wanted::GroupDue));
+        return Turn::Want(Wanted::GroupDue);
     }
     Turn::Stop(Refusal::TooDeep, place)
 }
@@ -172,7 +169,7 @@ fn job_begins(jobs: usize, place: usize) -> Turn
     ensures { λ t. ⌜ ((r : Reading) → meant r t ≡ pick (ltb jobs mostJobs) (want r Wanted.JobWork) (stop Refusal.TooManyJobs place)) ⌝ }
 {
     if jobs < 1000 {
-        return Turn::Go(Act::Want(Wanted::JobWork));
+        return Turn::Want(Wanted::JobWork);
     }
     Turn::Stop(Refusal::TooManyJobs, place)
 }
@@ -194,19 +191,14 @@ pub fn decide(state: State, token: Token, place: usize) -> Turn
     let wanted = state.wanted;
     let no = Turn::Stop(Refusal::NotAllowed, place);
     match wanted {
-        Wanted::OrderOpen => bracket_wanted(
-            token,
-            place,
-            Turn::Go(Act::Want(Wanted::OrderWord)),
-            no,
-        ),
-        Wanted::OrderWord => word_wanted(token, place, Turn::Go(Act::Want(Wanted::Boards)), no, no),
+        Wanted::OrderOpen => bracket_wanted(token, place, Turn::Want(Wanted::OrderWord), no),
+        Wanted::OrderWord => word_wanted(token, place, Turn::Want(Wanted::Boards), no, no),
         Wanted::Boards => number_wanted(token, place, 64),
         Wanted::ItemOrClose => bracket_wanted(
             token,
             place,
-            Turn::Go(Act::Want(Wanted::ItemWord)),
-            Turn::Go(Act::Leave),
+            Turn::Want(Wanted::ItemWord),
+            Turn::Leave,
         ),
         Wanted::ItemWord => word_wanted(
             token,
@@ -218,19 +210,25 @@ pub fn decide(state: State, token: Token, place: usize) -> Turn
         Wanted::GroupDue => number_wanted(token, place, 1000000),
         Wanted::JobWork => number_wanted(token, place, 1000000),
         Wanted::JobDue => number_wanted(token, place, 1000000),
-        Wanted::JobClose => bracket_wanted(
-            token,
-            place,
-            no,
-            Turn::Go(Act::Want(Wanted::ItemOrClose)),
-        ),
+        Wanted::JobClose => bracket_wanted(token, place, no, Turn::Want(Wanted::ItemOrClose)),
         Wanted::Finish => end_wanted(token, place, order_ends(state.jobs, place)),
     }
 }
 
+pub fn want_next(state: State, wanted: Wanted) -> State
+    ensures { λ s. ⌜ Changes state (Turn.Want wanted) s ⌝ }
+{
+    State {
+        wanted,
+        boards: state.boards,
+        level: state.level,
+        jobs: state.jobs,
+    }
+}
+
 // `)` leaves the innermost group, or the order.
-fn leave(state: State) -> State
-    ensures { λ s. ⌜ Leaves state s ⌝ }
+pub fn leave(state: State) -> State
+    ensures { λ s. ⌜ Changes state Turn.Leave s ⌝ }
 {
     let level = state.level;
     if level == 0 {
@@ -250,9 +248,9 @@ fn leave(state: State) -> State
 }
 
 // A number, taken for what was wanted: the boards, a group's due, a job's work or a job's due.
-fn take_number(state: State, n: u32, work: &mut [u32], due: &mut [u32], least: &mut [u32]) -> State
+pub fn take_in(state: State, n: u32, work: &mut [u32], due: &mut [u32], least: &mut [u32]) -> State
     requires { ⌜ Bounded state ⌝ }
-    ensures { λ s. ⌜ Acts state (Act.Take n) (now (work .entry)) (now (due .entry)) (now (least .entry)) s (now (work .exit)) (now (due .exit)) (now (least .exit)) ⌝ }
+    ensures { λ s. ⌜ Acts state (Turn.Take n) (now (work .entry)) (now (due .entry)) (now (least .entry)) s (now (work .exit)) (now (due .exit)) (now (least .exit)) ⌝ }
 {
     let wanted = state.wanted;
     let boards = state.boards;
@@ -295,22 +293,6 @@ fn take_number(state: State, n: u32, work: &mut [u32], due: &mut [u32], least: &
             }
         }
         _ => state,
-    }
-}
-
-pub fn act_on(state: State, act: Act, work: &mut [u32], due: &mut [u32], least: &mut [u32]) -> State
-    requires { ⌜ Bounded state ⌝ }
-    ensures { λ s. ⌜ Acts state act (now (work .entry)) (now (due .entry)) (now (least .entry)) s (now (work .exit)) (now (due .exit)) (now (least .exit)) ⌝ }
-{
-    match act {
-        Act::Want(wanted) => State {
-            wanted,
-            boards: state.boards,
-            level: state.level,
-            jobs: state.jobs,
-        },
-        Act::Take(n) => take_number(state, n, work, due, least),
-        Act::Leave => leave(state),
     }
 }
 

@@ -16,11 +16,9 @@ use Rattle.rules.specs.Orders.{Reading, Step, go, stop, done, leave, want, step
 use Rattle.lexer.specs.Scan.{NextToken}
 use Rattle.lexer.specs.declared.Seen.{Seen}
 use Rattle.grammar.specs.declared.State.{State}
-use Rattle.grammar.specs.declared.Act.{Act}
 use Rattle.grammar.specs.declared.Turn.{Turn}
-use Rattle.grammar.specs.declared.Turn.the-variants.{Go}
 use Rattle.grammar.specs.declared.Ended.{Ended}
-use Rattle.grammar.specs.Turns.{acted, Holds, Decides, Acts, Finished, Stands}
+use Rattle.grammar.specs.Turns.{acted, Goes, Holds, Decides, Acts, Finished, Stands}
 use Rattle.grammar.specs.Steps.{pick-all, bracket-all, word-all, number-all, ending-all, goes, moves-on, stands-on, stands-start}
 use Rattle.pair.specs.declared.Reached.{Reached}
 use Rattle.pair.specs.declared.Reached.the-variants.{On, Off}
@@ -58,14 +56,14 @@ moved-same w w′ v v′ l l′ k k′ a b c d m =
     subst (λ (x : ℕ). Moved w′ l′ v′ x) d (subst (λ (x : Wanted). Moved w′ l′ x k) c (subst (λ (x : ℕ). Moved w′ x v k) b (subst (λ (x : Wanted). Moved x l v k) a m)))
 
 -- ---- one token that goes on
-pub step-on : (file : List ℕ) (at : ℕ) (s : State) (work due least : List ℕ) → Ready file at s work due least → (seen : Seen) → NextToken file at seen → (turn : Turn) → Decides s (seen .token) (seen .place) turn → (act : Act) → turn ≡ Go act → (s′ : State) (work′ due′ least′ : List ℕ) → Acts s act work due least s′ work′ due′ least′ → To (λ x. Moved (s .wanted) (s .level) (x .wanted) (x .level)) file at (On s′ (seen .next)) work′ due′ least′
-step-on file at s work due least c seen n turn d act g s′ work′ due′ least′ a =
+pub step-on : (file : List ℕ) (at : ℕ) (s : State) (work due least : List ℕ) → Ready file at s work due least → (seen : Seen) → NextToken file at seen → (turn : Turn) → Decides s (seen .token) (seen .place) turn → (act : Turn) → turn ≡ act → Goes act → (s′ : State) (work′ due′ least′ : List ℕ) → Acts s act work due least s′ work′ due′ least′ → To (λ x. Moved (s .wanted) (s .level) (x .wanted) (x .level)) file at (On s′ (seen .next)) work′ due′ least′
+step-on file at s work due least c seen n turn d act e g s′ work′ due′ least′ a =
     let r : Reading = c .stands .reading in
     let h : Holds r s work due least = c .stands .holds in
     let h′ : Holds (acted r act) s′ work′ due′ least′ = a r (c .stands .sound) (c .long-work) (c .long-due) (c .long-least) h in
-    let m : Leads (r .wanted) r (go (acted r act)) = subst (Leads (r .wanted) r) (goes file at s work due least (c .stands) seen n turn d act g) (leads (r .wanted) r (seen .token) (seen .place)) in (
-      stands-on file at s work due least (c .stands) seen n turn d act g s′ work′ due′ least′ (c .long-work) (c .long-due) (c .long-least) a,
-      moves-on file at s work due least (c .stands) seen n turn d act g,
+    let m : Leads (r .wanted) r (go (acted r act)) = subst (Leads (r .wanted) r) (goes file at s work due least (c .stands) seen n turn d act e g) (leads (r .wanted) r (seen .token) (seen .place)) in (
+      stands-on file at s work due least (c .stands) seen n turn d act e g s′ work′ due′ least′ (c .long-work) (c .long-due) (c .long-least) a,
+      moves-on file at s work due least (c .stands) seen n turn d act e g,
       moved-same (r .wanted) (s .wanted) (acted r act .wanted) (s′ .wanted) (length (r .groups)) (s .level) (length (acted r act .groups)) (s′ .level) (h .as-wanted) (h .as-level) (h′ .as-wanted) (h′ .as-level) m,
     )
 

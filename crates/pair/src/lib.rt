@@ -6,11 +6,13 @@
 use grammar::Ended;
 use grammar::State;
 use grammar::Turn;
-use grammar::act_on;
 use grammar::answer;
 use grammar::decide;
+use grammar::leave;
 use grammar::smaller;
+use grammar::take_in;
 use grammar::untouched;
+use grammar::want_next;
 use lexer::next_token;
 use rules::OrderRead;
 use rules::Refusal;
@@ -47,7 +49,9 @@ fn step(
     match turn {
         Turn::Stop(refusal, place) => Reached::Off(Ended::Refused(refusal, place)),
         Turn::Done => Reached::Off(Ended::Accepted(state.boards, state.jobs)),
-        Turn::Go(act) => Reached::On(act_on(state, act, work, due, least), seen.next),
+        Turn::Want(wanted) => Reached::On(want_next(state, wanted), seen.next),
+        Turn::Take(n) => Reached::On(take_in(state, n, work, due, least), seen.next),
+        Turn::Leave => Reached::On(leave(state), seen.next),
     }
 }
 

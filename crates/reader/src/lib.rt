@@ -4,11 +4,13 @@
 use grammar::Ended;
 use grammar::State;
 use grammar::Turn;
-use grammar::act_on;
 use grammar::answer;
 use grammar::decide;
+use grammar::leave;
 use grammar::smaller;
+use grammar::take_in;
 use grammar::untouched;
+use grammar::want_next;
 use lexer::next_token;
 use rules::OrderRead;
 use rules::Refusal;
@@ -43,8 +45,16 @@ fn read_tokens(file: &[u8], work: &mut [u32], due: &mut [u32], least: &mut [u32]
             Turn::Done => {
                 return Ended::Accepted(state.boards, state.jobs);
             }
-            Turn::Go(act) => {
-                state = act_on(state, act, work, due, least);
+            Turn::Want(wanted) => {
+                state = want_next(state, wanted);
+                at = seen.next;
+            }
+            Turn::Take(n) => {
+                state = take_in(state, n, work, due, least);
+                at = seen.next;
+            }
+            Turn::Leave => {
+                state = leave(state);
                 at = seen.next;
             }
         }

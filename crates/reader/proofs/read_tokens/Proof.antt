@@ -1,5 +1,6 @@
 -- The invariant: state and lists hold a reading from which the tokens from the place on give the file's outcome. A turn that goes on\nsaw a token that is not the last, so the place moves forward, and the bytes left are the measure.
-use Rattle.grammar.specs.Steps.{stands-start, stands-bounded, stands-stop, stands-done, stands-on, moves-on}
+use Rattle.grammar.specs.Steps.{stands-start, stands-bounded, stands-stop, stands-done, stands-on, moves-on, changes-acts}
+use Rattle.grammar.specs.declared.Turn.the-variants.{Want, Take, Leave}
 use Rattle.grammar.specs.Turns.{Stands}
 use lib.ListN.{length}
 use Prim.Native.Nat.{_-_}
@@ -80,31 +81,77 @@ returns-2 c =
 enum-known-turn-2 : tie.Need-enum-known-turn-2 Inv-loop μ-loop
 enum-known-turn-2 c = search needs
 
-act-on-requires : tie.Need-act-on-requires Inv-loop μ-loop
-act-on-requires c κs =
+want-next-requires : tie.Need-want-next-requires Inv-loop μ-loop
+want-next-requires c κs = search needs
+
+loop-less : tie.Need-loop-less Inv-loop μ-loop
+loop-less c =
+    let c4 = c .before .before .before .before in
+    let c5 = c4 .before in
+    let c6 = c5 .before in
+    let c11 = c6 .before .before .before .before .before in
+    let m = moves-on (c11 .args .file .now) (c6 .loop .at) (c6 .loop .state) (c6 .loop .work) (c6 .loop .due) (c6 .loop .least) (c6 .loop .inv .3) (c5 .next-token .result) (c5 .next-token .ensures) (c4 .decide .result) (c4 .decide .ensures) (Want (c .before .before .turn2 .given .0 .0)) (c .before .before .turn2 .given .1) tt in
+    omega (arith, m, c5 .next-token .ensures .inside (c6 .loop .inv .3 .inside) .1)
+
+loop-again : tie.Need-loop-again Inv-loop μ-loop
+loop-again c =
+    let c4 = c .before .before .before .before in
+    let c5 = c4 .before in
+    let c6 = c5 .before in
+    let c11 = c6 .before .before .before .before .before in
+    (c6 .loop .inv .0, c6 .loop .inv .1, c6 .loop .inv .2, stands-on (c11 .args .file .now) (c6 .loop .at) (c6 .loop .state) (c6 .loop .work) (c6 .loop .due) (c6 .loop .least) (c6 .loop .inv .3) (c5 .next-token .result) (c5 .next-token .ensures) (c4 .decide .result) (c4 .decide .ensures) (Want (c .before .before .turn2 .given .0 .0)) (c .before .before .turn2 .given .1) tt (c .want-next .result) (c6 .loop .work) (c6 .loop .due) (c6 .loop .least) (omega (arith, c11 .pre .0, c6 .loop .inv .0)) (omega (arith, c11 .pre .1, c6 .loop .inv .1)) (omega (arith, c11 .pre .2, c6 .loop .inv .2)) (changes-acts (c6 .loop .state) (Want (c .before .before .turn2 .given .0 .0)) (c .want-next .result) (c6 .loop .work) (c6 .loop .due) (c6 .loop .least) (c .want-next .ensures)))
+
+enum-known-turn-3 : tie.Need-enum-known-turn-3 Inv-loop μ-loop
+enum-known-turn-3 c = search needs
+
+take-in-requires : tie.Need-take-in-requires Inv-loop μ-loop
+take-in-requires c κs =
     let c8 = c .before .before .before .before .before .before .before .before in
     let c13 = c8 .before .before .before .before .before in
     stands-bounded (c13 .args .file .now) (c8 .loop .at) (c8 .loop .state) (c8 .loop .work) (c8 .loop .due) (c8 .loop .least) (c8 .loop .inv .3)
 
-loop-less : tie.Need-loop-less Inv-loop μ-loop
-loop-less c =
+loop-less-2 : tie.Need-loop-less-2 Inv-loop μ-loop
+loop-less-2 c =
     let c11 = c .before .before .before .before .before .before .before .before .before .before .before in
     let c13 = c11 .before .before in
     let c14 = c13 .before in
     let c15 = c14 .before in
     let c20 = c15 .before .before .before .before .before in
-    let m = moves-on (c20 .args .file .now) (c15 .loop .at) (c15 .loop .state) (c15 .loop .work) (c15 .loop .due) (c15 .loop .least) (c15 .loop .inv .3) (c14 .next-token .result) (c14 .next-token .ensures) (c13 .decide .result) (c13 .decide .ensures) (c11 .turn2 .given .0 .0) (c11 .turn2 .given .1) in
+    let m = moves-on (c20 .args .file .now) (c15 .loop .at) (c15 .loop .state) (c15 .loop .work) (c15 .loop .due) (c15 .loop .least) (c15 .loop .inv .3) (c14 .next-token .result) (c14 .next-token .ensures) (c13 .decide .result) (c13 .decide .ensures) (Take (c11 .turn3 .given .0 .0)) (c11 .turn3 .given .1) tt in
     omega (arith, m, c14 .next-token .ensures .inside (c15 .loop .inv .3 .inside) .1)
 
-loop-again : tie.Need-loop-again Inv-loop μ-loop
-loop-again c =
+loop-again-2 : tie.Need-loop-again-2 Inv-loop μ-loop
+loop-again-2 c =
     let c6 = c .before .before .before .before .before .before in
     let c11 = c6 .before .before .before .before .before in
     let c13 = c11 .before .before in
     let c14 = c13 .before in
     let c15 = c14 .before in
     let c20 = c15 .before .before .before .before .before in
-    (c6 .act-on .kept .1 .1 .0 ∙ c15 .loop .inv .0, c6 .act-on .kept .1 .1 .1 .0 ∙ c15 .loop .inv .1, c6 .act-on .kept .1 .1 .1 .1 .0 ∙ c15 .loop .inv .2, stands-on (c20 .args .file .now) (c15 .loop .at) (c15 .loop .state) (c15 .loop .work) (c15 .loop .due) (c15 .loop .least) (c15 .loop .inv .3) (c14 .next-token .result) (c14 .next-token .ensures) (c13 .decide .result) (c13 .decide .ensures) (c11 .turn2 .given .0 .0) (c11 .turn2 .given .1) (c6 .act-on .result) (c6 .act-on .last .1 .1 .0) (c6 .act-on .last .1 .1 .1 .0) (c6 .act-on .last .1 .1 .1 .1 .0) (omega (arith, c20 .pre .0, c15 .loop .inv .0)) (omega (arith, c20 .pre .1, c15 .loop .inv .1)) (omega (arith, c20 .pre .2, c15 .loop .inv .2)) (c6 .act-on .ensures))
+    (c6 .take-in .kept .1 .1 .0 ∙ c15 .loop .inv .0, c6 .take-in .kept .1 .1 .1 .0 ∙ c15 .loop .inv .1, c6 .take-in .kept .1 .1 .1 .1 .0 ∙ c15 .loop .inv .2, stands-on (c20 .args .file .now) (c15 .loop .at) (c15 .loop .state) (c15 .loop .work) (c15 .loop .due) (c15 .loop .least) (c15 .loop .inv .3) (c14 .next-token .result) (c14 .next-token .ensures) (c13 .decide .result) (c13 .decide .ensures) (Take (c11 .turn3 .given .0 .0)) (c11 .turn3 .given .1) tt (c6 .take-in .result) (c6 .take-in .last .1 .1 .0) (c6 .take-in .last .1 .1 .1 .0) (c6 .take-in .last .1 .1 .1 .1 .0) (omega (arith, c20 .pre .0, c15 .loop .inv .0)) (omega (arith, c20 .pre .1, c15 .loop .inv .1)) (omega (arith, c20 .pre .2, c15 .loop .inv .2)) (c6 .take-in .ensures))
+
+enum-told-2 : tie.Need-enum-told-2 Inv-loop μ-loop
+enum-told-2 c = search needs
+
+leave-requires : tie.Need-leave-requires Inv-loop μ-loop
+leave-requires c κs = search needs
+
+loop-less-3 : tie.Need-loop-less-3 Inv-loop μ-loop
+loop-less-3 c =
+    let c3 = c .before .before .before in
+    let c4 = c3 .before in
+    let c5 = c4 .before in
+    let c10 = c5 .before .before .before .before .before in
+    let m = moves-on (c10 .args .file .now) (c5 .loop .at) (c5 .loop .state) (c5 .loop .work) (c5 .loop .due) (c5 .loop .least) (c5 .loop .inv .3) (c4 .next-token .result) (c4 .next-token .ensures) (c3 .decide .result) (c3 .decide .ensures) Leave (c .before .enum-told2 .given .1) tt in
+    omega (arith, m, c4 .next-token .ensures .inside (c5 .loop .inv .3 .inside) .1)
+
+loop-again-3 : tie.Need-loop-again-3 Inv-loop μ-loop
+loop-again-3 c =
+    let c3 = c .before .before .before in
+    let c4 = c3 .before in
+    let c5 = c4 .before in
+    let c10 = c5 .before .before .before .before .before in
+    (c5 .loop .inv .0, c5 .loop .inv .1, c5 .loop .inv .2, stands-on (c10 .args .file .now) (c5 .loop .at) (c5 .loop .state) (c5 .loop .work) (c5 .loop .due) (c5 .loop .least) (c5 .loop .inv .3) (c4 .next-token .result) (c4 .next-token .ensures) (c3 .decide .result) (c3 .decide .ensures) Leave (c .before .enum-told2 .given .1) tt (c .leave .result) (c5 .loop .work) (c5 .loop .due) (c5 .loop .least) (omega (arith, c10 .pre .0, c5 .loop .inv .0)) (omega (arith, c10 .pre .1, c5 .loop .inv .1)) (omega (arith, c10 .pre .2, c5 .loop .inv .2)) (changes-acts (c5 .loop .state) Leave (c .leave .result) (c5 .loop .work) (c5 .loop .due) (c5 .loop .least) (c .leave .ensures)))
 
 pub read-tokens-spec : {M : Type 1} → statement M
 read-tokens-spec =
@@ -126,6 +173,14 @@ read-tokens-spec =
     same-length-6
     returns-2
     enum-known-turn-2
-    act-on-requires
+    want-next-requires
     loop-less
-    loop-again)
+    loop-again
+    enum-known-turn-3
+    take-in-requires
+    loop-less-2
+    loop-again-2
+    enum-told-2
+    leave-requires
+    loop-less-3
+    loop-again-3)

@@ -2,8 +2,8 @@
 use Rattle.grammar.proofs.Tags.{no-take}
 use Rattle.grammar.specs.Laws.{took-boards, took-group, took-work, took-due, took-none}
 use borrow.Author.Needs.{needs}
-use Rattle.grammar.proofs.take_number.Statement.{statement}
-use Rattle.grammar.proofs.take_number.Tie as tie
+use Rattle.grammar.proofs.take_in.Statement.{statement}
+use Rattle.grammar.proofs.take_in.Tie as tie
 
 enum-told : tie.Need-enum-told
 enum-told c = search needs
@@ -80,8 +80,8 @@ returns-5 c =
     let c4 = c .before .before .before .before in
     λ r s w d l h. took-none r (c4 .args .state) (c4 .args .work .now) (c4 .args .due .now) (c4 .args .least .now) h (c4 .args .n) (no-take (c4 .args .state .wanted) (c .match .keys5))
 
-pub take-number-spec : {M : Type 1} → statement M
-take-number-spec =
+pub take-in-spec : {M : Type 1} → statement M
+take-in-spec =
     tie.close
     (tie.spec
     enum-told
