@@ -8,7 +8,8 @@ Reads the disassembly and refuses the archive unless
   - no function's address is taken, so that none can be called unseen;
   - the stack pointer moves only by amounts that stand in the code.
 Then it adds up the frames along the deepest chain from each exported function and holds each sum to the limit: an upper
-bound of the stack that a call can use. Every push and every sub counts once, though some exclude each other.
+bound of the stack that a call can use. Every push and every sub counts once, though some exclude each other; a function that
+calls none may also keep up to 128 bytes below the stack pointer, which count as well.
 """
 import argparse
 import collections
@@ -24,6 +25,7 @@ FUNCTION = re.compile(r"^([0-9a-f]+) <([^>+]+)>:$")
 LINE = re.compile(r"^ *([0-9a-f]+):\t(?:[0-9a-f]{2} )+ *\t?(.*)$")
 RELOCATION = re.compile(r"^\t+([0-9a-f]+): (R_\w+)\t(\S+?)(?:([+-])0x([0-9a-f]+))?$")
 PREFIXES = re.compile(r"^(?:(?:notrack|bnd|data16|cs|ds|addr32|rex\.?\w*) +)*")
+BELOW = re.compile(r"-0x([0-9a-f]+)\(%rsp[,)]")
 SECTION = re.compile(r"^Disassembly of section (\S+):$")
 
 
@@ -161,12 +163,14 @@ def signed(digits):
 
 
 def frame_of(function):
-    """Return address, pushes and subs. A probed frame grows in a loop: `r11 = rsp - N`, then page by page down to it."""
-    total, probed = RETURN, False
+    """Return address, pushes, subs and what lies below the stack pointer. A probed frame grows in a loop: `r11 = rsp - N`,
+    then page by page down to it."""
+    total, probed, below = RETURN, False, 0
     for index, instruction in enumerate(function.code):
         text = instruction.text
         words = text.split(None, 1)
         operands = words[1] if len(words) > 1 else ""
+        below = max([below] + [int(digits, 16) for digits in BELOW.findall(operands)])
         if words[0].startswith("push"):
             total += 8
         elif found := re.fullmatch(r"sub +\$0x([0-9a-f]+),%r11", text):
@@ -185,7 +189,7 @@ def frame_of(function):
             total += -signed(found.group(1))
         elif operands.endswith("%rsp") and words[0] not in ("cmp", "test") or words[0] in ("enter", "leave"):
             raise Bad(f"{function.name}: {text} moves the stack pointer")
-    return total
+    return total + below
 
 
 def deepest(name, functions, chain=()):
