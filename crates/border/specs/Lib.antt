@@ -1,0 +1,2 @@
+-- What the exported contracts say together.
+pub mod OneAnswer
