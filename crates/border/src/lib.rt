@@ -1,5 +1,7 @@
 // The C border: every function that C may call, with its contract carried over. A `&[T]` is a pointer and a count of
 // elements; results are plain structs of 32-bit numbers. No function here has a `requires`: each answers all inputs.
+#![tactic(auto)]
+
 ghost use Rattle.std.specs.Prelude.{◌≡◌};
 ghost use Rattle.rules.specs.Orders.{read_answer};
 ghost use Rattle.rules.specs.Plans.{Plan, jobs, rows_of};

@@ -1,6 +1,8 @@
 // What the planner and the checker test first of a day: 12 for the boards, 13 for the lists, 14 for each job's numbers.
 // Each answer is that of the definition in crates/rules. The one loop keeps that the answer from job i + 1 on is the
 // answer from job 1 on, since all jobs before are good.
+#![tactic(auto)]
+
 ghost use Rattle.std.specs.Prelude.{◌≡◌};
 ghost use Rattle.rules.specs.Basics.{within};
 ghost use Rattle.rules.specs.Planning.{bad_boards, bad_lists, job_good, first_out};

@@ -3,6 +3,8 @@
 // group round the place the least due of it and of the groups round it stands in an array of 32.
 // The idea of the proof: the state stands for a `Reading` of the definition; a turn means one of the definition's steps, and
 // acting on it changes state and lists as it changes the reading.
+#![tactic(auto)]
+
 ghost use Rattle.std.specs.Prelude.{◌≡◌, List, ◌++◌, ℕ, ◌-◌, ◌<◌, min, eqb, ltb, length, take, get_or, set};
 ghost use Rattle.rules.specs.Basics.{pick, zeros, most_jobs, most_levels};
 ghost use Rattle.rules.specs.Orders.{Reading, go, stop, done, want, bracket, word, number, ending, refused_read, after_reading};

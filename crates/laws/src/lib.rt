@@ -1,1 +1,2 @@
 // Laws of the definitions that several crates' proofs cite; no code.
+#![tactic(auto)]

@@ -1,6 +1,8 @@
 // The lexer: the token that stands at a place of an order file, with the place of its first byte and the place behind it.
 // The idea of the proof: `tokens_from` gives the same tokens from the start of a run of blanks as from its end, and, with
 // the atom read so far in hand, the same from each byte of the atom. Each byte is looked at a constant number of times.
+#![tactic(auto)]
+
 ghost use Rattle.std.specs.Prelude.{◌≡◌, true, ◌-◌, ◌≤◌, ◌<◌, length, get_or};
 ghost use Rattle.rules.specs.Basics.{every, most_digits};
 ghost use Rattle.rules.specs.Tokens.{is_digit, is_letter_or_digit, is_blank, is_number, value_from, same, kind};

@@ -1,6 +1,8 @@
 // Lines of the listing: numbers in decimal digits, fields and rows, put into a lent buffer one behind the other.
 // Each function says that the buffer holds the definition's bytes at the place given, and where they end. A number is put
 // from its first digit on: what was put, and the digits left to put, are together those of the number.
+#![tactic(auto)]
+
 ghost use Rattle.std.specs.Prelude.{◌≡◌, [], ◌∷◌, ◌++◌, ◌+◌, ◌*◌, ◌/◌, ◌%◌, ◌^◌, ◌≤◌, ◌<◌, length};
 ghost use Rattle.laws.specs.Stores.{stored};
 ghost use Rattle.lines.specs.Digits.{IsLead, Put};

@@ -1,6 +1,8 @@
 // The listing of an order: read, planned and put into a lent buffer as `planlist` prints it.
 // The contract is the definition `listing`; the proof only joins what the reader, the planner and the lines ensure. What
 // the lists and the table held before matters to none of them.
+#![tactic(auto)]
+
 ghost use Rattle.std.specs.Prelude.{◌≡◌, ◌*◌, ◌-◌, ◌≤◌, length};
 ghost use Rattle.rules.specs.Listings.{plan_lines};
 ghost use Rattle.rules.specs.Planning.{plan_answer};

@@ -3,6 +3,8 @@
 // from the same definition, and are never linked into what ships: no compiled function there calls itself.
 // The idea of the proof: each function takes a place at which state and lists hold a reading, and hands back a later such
 // place, with what is wanted there, or how the reading ended.
+#![tactic(auto)]
+
 ghost use Rattle.std.specs.Prelude.{◌≡◌, ◌+◌, ◌≤◌, length};
 ghost use Rattle.rules.specs.declared.Wanted.TheVariants.{ItemOrClose, ItemWord};
 ghost use Rattle.rules.specs.Basics.{most_jobs, most_levels};

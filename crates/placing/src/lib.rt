@@ -3,6 +3,8 @@
 // The idea: a scan keeps that the best spot so far leads to the same spot in the end. Steps 2 and 3 ask of the greatest room
 // and of the least room what 01 asks of every room; in step 4 both boards exist and differ, so that each row is written
 // from a free-from minute that the other has not changed.
+#![tactic(auto)]
+
 ghost use Rattle.std.specs.Prelude.{◌≡◌, [], ◌∷◌, ◌-◌, ◌≤◌};
 ghost use Rattle.rules.specs.Planning.{rooms, greatest_up_to, least_above, fill, place_last, place_other};
 ghost use Rattle.placing.specs.Rows.{job_of, row_from, split_over, with_rows, Ready, RowReady, Wrote};

@@ -1,6 +1,8 @@
 // The plan file: its reader, which hands back the bytes of the rows, the decoder of one row, and its writer.
 // A number is loaded and stored byte by byte, the lowest first. Bytes that are not there count as 0, so the loads are
 // total, and the proofs speak of lists cut by `take` and `drop`.
+#![tactic(auto)]
+
 ghost use Rattle.std.specs.Prelude.{◌≡◌, ◌++◌, ◌+◌, ◌*◌, ◌≤◌, ◌<◌, length, get_or, take, drop};
 ghost use Rattle.rules.specs.PlanFiles.{value_of, bytes_of, row_bytes, rows_bytes, trailer_bytes, refused_part, part_answer, part_of, first_wide, write_answer};
 ghost use Rattle.rules.specs.Plans.{rows_of};

@@ -1,4 +1,6 @@
 // planlist: an order on standard input, its listing on standard output. All that matters is `listing::list`.
+#![tactic(auto)]
+
 ghost use Rattle.std.specs.Prelude.{◌≡◌, length};
 
 use libc::{STDIN_FILENO, STDOUT_FILENO};

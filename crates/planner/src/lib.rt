@@ -2,6 +2,8 @@
 // all inputs: the numbers and the whole later table.
 // The idea: the loop over the jobs keeps that placing the jobs left, behind the rows so far, gives what placing all of them
 // gives, and that the table begins with the rows so far. What stands behind the rows is cleared once, at the end.
+#![tactic(auto)]
+
 ghost use Rattle.std.specs.Prelude.{◌≡◌, [], ◌++◌, map, ◌-◌, ◌≤◌, length, take};
 ghost use Rattle.rules.specs.Basics.{pick, zeros, most_jobs};
 ghost use Rattle.rules.specs.Refusals.{number_of};

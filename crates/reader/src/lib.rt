@@ -1,6 +1,8 @@
 // The order reader: any bytes and two lent buffers, and always an answer, accepted or refused.
 // The idea of the proof: the loop's state and lists hold a reading of the definition, and one turn of the loop is one of its
 // steps. So what is still to be read from the place on stays what is to be read from the start.
+#![tactic(auto)]
+
 ghost use Rattle.std.specs.Prelude.{◌≡◌, ◌≤◌, length};
 ghost use Rattle.rules.specs.Basics.{most_jobs, most_levels};
 ghost use Rattle.rules.specs.Orders.{read_answer};

@@ -1,5 +1,7 @@
 // The number of each refusal. Reader, planner, checker and plan files answer with it.
 // The definition gives one number for each case, and so does the match: there is nothing else to prove.
+#![tactic(auto)]
+
 ghost use Rattle.std.specs.Prelude.{◌≡◌};
 ghost use Rattle.rules.specs.Refusals.{number_of};
 

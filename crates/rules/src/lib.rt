@@ -1,5 +1,6 @@
 // What the other crates share: the words of the order file, the refusals and the numbers that each call answers.
 // The rules themselves are the definitions in specs/, to be read in the order of specs/Lib.antt.
+#![tactic(auto)]
 
 // An atom by kind.
 #[derive(Drop)]

@@ -3,3 +3,4 @@
 // A refusal is right because only the number of boards free in each minute matters to the jobs to come, and the steps take
 // minutes with as many free boards as any left out (Fits, Free); and every plan is such a choice of minutes (Covers).
 // The rows are few because a job in two rows fills a board for its due minute and leaves another unfilled (Few).
+#![tactic(auto)]
