@@ -71,10 +71,10 @@ fn put_field(b: &mut [u8], at: usize, n: u32) -> usize
 
 // Puts each number behind a space, then a line feed.
 fn put_fields(b: &mut [u8], at: usize, numbers: &[u32]) -> usize
-    requires at_bound { (at ≤ 99900) × (length numbers.now ≤ 8) }
-    requires numbers_in_bounds { at + 11 * length numbers.now + 1 ≤ length b.old }
+    requires at_fits { (at ≤ 99900) × (length numbers.now ≤ 8) }
+    requires numbers_fit { at + 11 * length numbers.now + 1 ≤ length b.old }
     ensures put { Put b.old at (fields numbers.now) b.new result }
-    ensures upper_bound { result ≤ at + 11 * length numbers.now + 1 }
+    ensures few_bytes { result ≤ at + 11 * length numbers.now + 1 }
 {
     let mut to = at;
     let mut i: usize = 0;
@@ -110,10 +110,10 @@ fn put_row(b: &mut [u8], at: usize, row: &[u32]) -> usize
 
 // Puts the lines of the first rows of a table.
 fn put_rows(b: &mut [u8], at: usize, table: &[u32], count: usize) -> usize
-    requires at_bound { (at ≤ 100) × (count ≤ 2000) × (4 * count ≤ length table.now) }
-    requires count_in_bounds { at + 44 * count ≤ length b.old }
+    requires at_fits { (at ≤ 100) × (count ≤ 2000) × (4 * count ≤ length table.now) }
+    requires rows_fit { at + 44 * count ≤ length b.old }
     ensures put { Put b.old at (row_lines (rows_of count table.now)) b.new result }
-    ensures upper_bound { result ≤ at + 44 * count }
+    ensures few_bytes { result ≤ at + 44 * count }
 {
     let mut to = at;
     let mut i: usize = 0;

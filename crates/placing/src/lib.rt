@@ -133,7 +133,7 @@ fn place_two(
     at: usize,
 ) -> usize
     requires ready { Ready free.old table.old at }
-    requires work_bound { work ≤ (greatest_up_to due (rooms due free.old)).room }
+    requires fits { work ≤ (greatest_up_to due (rooms due free.old)).room }
     ensures { Wrote (split_over free.old number work due) free.old table.old
         at result free.new table.new }
 {

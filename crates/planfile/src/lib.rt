@@ -150,8 +150,8 @@ fn put4(b: &mut [u8], at: usize, x: u32)
 
 // Puts row i of a table, counted from 0, at a place.
 fn put_row(b: &mut [u8], at: usize, table: &[u32], i: usize)
-    requires at_bound { (at ≤ 65520) × (at + 12 ≤ length b.old) }
-    requires i_bound { (i ≤ 2000) × (4 * i + 4 ≤ length table.now) }
+    requires at_fits { (at ≤ 65520) × (at + 12 ≤ length b.old) }
+    requires row_fits { (i ≤ 2000) × (4 * i + 4 ≤ length table.now) }
     ensures { b.new ≡ stored b.old at (row_bytes (table_row_at table.now i)) }
 {
     put2(b, at, table[4 * i]);

@@ -98,9 +98,9 @@ fn place_jobs(records: &[u64], free: &mut [u32], table: &mut [u32]) -> Planned
 // The whole answer for jobs in due order, from given free-from minutes: the rows, then zeros; all zero for 9.
 fn plan_records(records: &[u64], free: &mut [u32], table: &mut [u32]) -> Planned
     requires { Enough records.now free.old table.old }
-    ensures value { result ≡ (after_placing (place_all [] free.old (map job_in records.now))
+    ensures said { result ≡ (after_placing (place_all [] free.old (map job_in records.now))
         table.old).said }
-    ensures table_after { table.new ≡ (after_placing (place_all [] free.old (map job_in records.now))
+    ensures later { table.new ≡ (after_placing (place_all [] free.old (map job_in records.now))
         table.old).table }
 {
     let said = place_jobs(records, free, table);
@@ -119,11 +119,11 @@ fn plan_from(
     table: &mut [u32],
 ) -> Planned
     requires day { Day free.old work.now due.now table.old }
-    requires most_jobs_in_bounds { most_jobs ≤ length records.old }
-    requires most_jobs_in_bounds_2 { most_jobs ≤ length scratch.old }
-    ensures value { result ≡ (after_placing
+    requires records_long { most_jobs ≤ length records.old }
+    requires scratch_long { most_jobs ≤ length scratch.old }
+    ensures said { result ≡ (after_placing
         (place_all [] free.old (due_order (jobs work.now due.now))) table.old).said }
-    ensures table_after { table.new ≡ (after_placing
+    ensures later { table.new ≡ (after_placing
         (place_all [] free.old (due_order (jobs work.now due.now))) table.old).table }
 {
     let n = work.len();
@@ -134,8 +134,8 @@ fn plan_from(
 // "Each board has a free-from minute, at first 0". All scratch of the planner is here: 16,256 bytes.
 fn plan_day(boards: u32, work: &[u32], due: &[u32], table: &mut [u32]) -> Planned
     requires { Day (zeros boards) work.now due.now table.old }
-    ensures value { result ≡ (after_placing (placing boards work.now due.now) table.old).said }
-    ensures table_after { table.new ≡ (after_placing (placing boards work.now due.now)
+    ensures said { result ≡ (after_placing (placing boards work.now due.now) table.old).said }
+    ensures later { table.new ≡ (after_placing (placing boards work.now due.now)
         table.old).table }
 {
     let m = boards as usize;
@@ -147,8 +147,8 @@ fn plan_day(boards: u32, work: &[u32], due: &[u32], table: &mut [u32]) -> Planne
 
 // "Order: 12; 13; 10 (table under 8 numbers per job); 14; 9"
 pub fn plan(boards: u32, work: &[u32], due: &[u32], table: &mut [u32]) -> Planned
-    ensures value { result ≡ (plan_answer boards work.now due.now table.old).said }
-    ensures table_after { table.new ≡ (plan_answer boards work.now due.now table.old).table }
+    ensures said { result ≡ (plan_answer boards work.now due.now table.old).said }
+    ensures later { table.new ≡ (plan_answer boards work.now due.now table.old).table }
 {
     if dayrules::bad_boards(boards) {
         return refused(Refusal::BadBoards, 0);
