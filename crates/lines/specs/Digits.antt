@@ -1,6 +1,6 @@
 -- A number's digits from the first on.
 use Rattle.std.specs.Prelude.{◌≡◌, refl, List, [], ◌∷◌, ◌++◌, ℕ, zero, suc, ◌+◌, ◌*◌, ◌-◌, ◌/◌, ◌%◌, ◌^◌, ◌≤◌, ◌<◌, length}
-use Rattle.std.proofs.Common.{sym, ap, ap₂, ◌∙◌, append_assoc, append-nil, arith, le-div_iff_mul-le, pow-suc, le_trans, div-one, mul_comm, mul-div_cancel, lt_irrefl, lt_of_le_of_lt, add-one, length-append, lit<, lit≤}
+use Rattle.std.proofs.Common.{sym, ap, ◌∙◌, append_assoc, append-nil, arith, le-div_iff_mul-le, pow-suc, div-one, mul_comm, mul-div_cancel, add-one, length-append, lit<, lit≤}
 use Rattle.std.proofs.Math.Decide.{dec_le}
 use Rattle.std.proofs.Math.Nat.{div-div-eq-div-mul, pow-le-pow_right}
 use Rattle.laws.specs.Stores.{stored, stored_none, behind, length-stored}

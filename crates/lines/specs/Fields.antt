@@ -1,6 +1,6 @@
 -- Puts one behind the other: fields, rows and lines.
-use Rattle.std.specs.Prelude.{◌≡◌, refl, List, [], ◌∷◌, ◌++◌, ℕ, zero, suc, ◌+◌, ◌*◌, ◌-◌, ◌≤◌, ◌<◌, length, get_or, take, drop}
-use Rattle.std.proofs.Common.{sym, ap, ap₂, ◌∙◌, append_assoc, append-nil, arith, sub-eq-zero_of_le, add-zero, add-one, length-append, length-drop, drop_of_length-le, drop-cons, drop-drop, take-suc, take_all, length-take-le}
+use Rattle.std.specs.Prelude.{◌≡◌, refl, List, [], ◌∷◌, ◌++◌, ℕ, suc, ◌+◌, ◌*◌, ◌-◌, ◌≤◌, ◌<◌, length, get_or, take, drop}
+use Rattle.std.proofs.Common.{sym, ap, ◌∙◌, append_assoc, append-nil, arith, sub-eq-zero_of_le, add-zero, add-one, length-append, length-drop, drop_of_length-le, drop-cons, drop-drop, take-suc, take_all, length-take-le}
 use Rattle.std.proofs.Math.Nat.{sub-zero, add-sub_cancel_left}
 use Rattle.rules.specs.Basics.{text}
 use Rattle.laws.specs.Stores.{stored, stored_none, behind, length-stored}
