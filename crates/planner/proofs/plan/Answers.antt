@@ -6,7 +6,8 @@ use Rattle.planner.proofs.plan.Goals as goal
 pub returns-then-bad_boards : goal.returns-then-bad_boards
 returns-then-bad_boards c =
     let a = c.args in
-    let answer = refused_answer _ _ _ _ _ c.refused.ensures (answer_12 a.boards a.work.now a.due.now a.table.now
+    let answer = refused_answer _ _ _ _ _ c.refused.ensures
+    (answer_12 a.boards a.work.now a.due.now a.table.now
     (sym c.bad_boards.ensures ∙ c.if-bad_boards.true)) in
     record { said = answer.0; later = answer.1 }
 
@@ -14,7 +15,8 @@ pub returns-then-bad_lists : goal.returns-then-bad_lists
 returns-then-bad_lists c =
     let a = c.args in
     let boards_good = sym c.bad_boards.ensures ∙ c.if-bad_boards.false in
-    let answer = refused_answer _ _ _ _ _ c.refused-then-bad_lists.ensures (answer_13 a.boards a.work.now a.due.now a.table.now
+    let answer = refused_answer _ _ _ _ _ c.refused-then-bad_lists.ensures
+    (answer_13 a.boards a.work.now a.due.now a.table.now
     boards_good (sym c.bad_lists.ensures ∙ c.if-bad_lists.true)) in
     record { said = answer.0; later = answer.1 }
 
@@ -23,7 +25,8 @@ returns-then-table-work c =
     let a = c.args in
     let boards_good = sym c.bad_boards.ensures ∙ c.if-bad_boards.false in
     let lists_good = sym c.bad_lists.ensures ∙ c.if-bad_lists.false in
-    let answer = refused_answer _ _ _ _ _ c.refused-then-table-work.ensures (answer_10 a.boards a.work.now a.due.now a.table.now
+    let answer = refused_answer _ _ _ _ _ c.refused-then-table-work.ensures
+    (answer_10 a.boards a.work.now a.due.now a.table.now
     boards_good lists_good c.if-table-work.true) in
     record { said = answer.0; later = answer.1 }
 
@@ -40,7 +43,8 @@ returns-then-out-gt0 c =
     let a = c.args in
     let boards_good = sym c.bad_boards.ensures ∙ c.if-bad_boards.false in
     let lists_good = sym c.bad_lists.ensures ∙ c.if-bad_lists.false in
-    let answer = refused_answer _ _ _ _ _ c.refused-then-out-gt0.ensures (answer_14 a.boards a.work.now a.due.now a.table.now
+    let answer = refused_answer _ _ _ _ _ c.refused-then-out-gt0.ensures
+    (answer_14 a.boards a.work.now a.due.now a.table.now
     boards_good lists_good c.if-table-work.false c.first_out-out.result
     c.first_out-out.ensures c.if-out-gt0.true) in
     record { said = answer.0; later = answer.1 }
