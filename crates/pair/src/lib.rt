@@ -16,7 +16,7 @@ use lexer::next_token;
 use rules::{OrderRead, Refusal, Wanted};
 
 // A later place and the state there, or how the reading ended.
-#[derive(Drop)]
+#[derive(Clone, Copy)]
 pub enum Reached {
     On(State, usize),
     Off(Ended),
