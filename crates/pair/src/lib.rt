@@ -74,7 +74,7 @@ fn three(
 }
 
 // An item behind its opening bracket: a job, or a group with its due and its items.
-#[cycle(group_item)]
+#[cycle(items)]
 fn item(
     file: &[u8],
     at: usize,
@@ -103,7 +103,7 @@ fn item(
 }
 
 // The items of a group or of the order, and the closing bracket.
-#[cycle(group_item)]
+#[cycle(items)]
 fn group(
     file: &[u8],
     at: usize,
