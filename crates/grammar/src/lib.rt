@@ -13,9 +13,10 @@ ghost use Rattle.grammar.specs.Turns.{acted, meant, misplaced_as, capped, Decide
 use refusals::number;
 use rules::{OrderRead, Refusal, Token, Wanted, Word};
 
-// 01: "level 32 is the deepest", and "a 1,001st job" is refused.
+// 01: "level 32 is the deepest".
 const MOST_LEVELS: usize = 32;
 
+// 01: 7, "a 1,001st job".
 const MOST_JOBS: usize = 1000;
 
 // Where the reader stands.

@@ -1,4 +1,5 @@
--- Each arm says what is wanted, and the call in it means the definition's step for that; level and job count stand for the lengths that the definition tests.
+-- Each arm says what is wanted, and the call in it means the definition's step for that; level and job count stand for the
+-- lengths that the definition tests.
 use Rattle.std.proofs.Common.{Bool, ap, length, ltb, refl, sym, ℕ, ◌∙◌}
 use Rattle.grammar.specs.Laws.{leave_left, empty_is, whole_jobs}
 use Rattle.grammar.specs.Turns.{half}

@@ -1,4 +1,5 @@
--- The tests come in the definition's order; behind them the outcome of the reading is the answer, and of the buffers only the lengths count.
+-- The tests come in the definition's order; behind them the outcome of the reading is the answer, and of the
+-- buffers only the lengths count.
 use Rattle.std.proofs.Common.{arith}
 use Rattle.rules.specs.declared.Refusal.TheVariants.{ShortBuffer, LongFile}
 use Rattle.grammar.specs.Ends.{short_buffer, long_file, read_answers, refusal_answers}
