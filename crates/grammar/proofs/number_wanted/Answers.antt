@@ -6,7 +6,7 @@ use Rattle.grammar.specs.Turns.{meant}
 use Rattle.laws.specs.Tests.{pick_yes, pick_no}
 use Rattle.rules.specs.Orders.{stop}
 use Rattle.rules.specs.declared.Refusal.{Refusal}
-use borrow.Author.Tests.{lt-leb}
+use Rattle.std.proofs.lemmas.Bool.{lt-leb}
 use Rattle.grammar.proofs.number_wanted.Goals as goal
 
 pub returns-in_default : goal.returns-in_default
