@@ -1,5 +1,6 @@
-// The C border: every function that C may call, with its contract carried over. A `&[T]` is a pointer and a count of
-// elements; results are plain structs of 32-bit numbers. No function here has a `requires`: each answers all inputs.
+// The C border: every function that C may call, with its contract carried over; crates/border_c exports them, word for word.
+// A `&[T]` is a pointer and a count of elements; results are plain structs of 32-bit numbers. No function here has a
+// `requires`: each answers all inputs.
 #![tactic(auto)]
 
 ghost use Rattle.std.specs.Prelude.{◌≡◌};
@@ -16,8 +17,7 @@ use planfile::TableRow;
 use rules::{Checked, OrderRead, Planned, RowPart, Written};
 
 // Reads an order file into two lent lists.
-#[unsafe(no_mangle)]
-pub extern "C" fn tuffbasket_read_order(file: &[u8], work: &mut [u32], due: &mut [u32]) -> OrderRead
+pub fn tuffbasket_read_order(file: &[u8], work: &mut [u32], due: &mut [u32]) -> OrderRead
     ensures said { result ≡ (read_answer file.now work.old due.old).said }
     ensures works { work.new ≡ (read_answer file.now work.old due.old).work }
     ensures dues { due.new ≡ (read_answer file.now work.old due.old).due }
@@ -26,8 +26,7 @@ pub extern "C" fn tuffbasket_read_order(file: &[u8], work: &mut [u32], due: &mut
 }
 
 // Plans a day on equal boards into a lent table: demands 2 and 3 are the clauses plan, none, few and busy.
-#[unsafe(no_mangle)]
-pub extern "C" fn tuffbasket_plan(
+pub fn tuffbasket_plan(
     boards: u32,
     work: &[u32],
     due: &[u32],
@@ -45,8 +44,7 @@ pub extern "C" fn tuffbasket_plan(
 }
 
 // Says yes to exactly the plans.
-#[unsafe(no_mangle)]
-pub extern "C" fn tuffbasket_check(
+pub fn tuffbasket_check(
     boards: u32,
     work: &[u32],
     due: &[u32],
@@ -60,24 +58,21 @@ pub extern "C" fn tuffbasket_check(
 }
 
 // Where the rows of a plan file stand, as an offset and a length in bytes.
-#[unsafe(no_mangle)]
-pub extern "C" fn tuffbasket_find_rows(file: &[u8]) -> RowPart
+pub fn tuffbasket_find_rows(file: &[u8]) -> RowPart
     ensures { result ≡ part_answer file.now }
 {
     planfile::find_rows(file)
 }
 
 // Row i of a plan file, counted from 0.
-#[unsafe(no_mangle)]
-pub extern "C" fn tuffbasket_file_row(file: &[u8], i: usize) -> TableRow
+pub fn tuffbasket_file_row(file: &[u8], i: usize) -> TableRow
     ensures { result ≡ table_row (row_at (part_of file.now) i) }
 {
     planfile::file_row(file, i)
 }
 
 // Writes a plan file behind a note of so many bytes.
-#[unsafe(no_mangle)]
-pub extern "C" fn tuffbasket_write_plan(
+pub fn tuffbasket_write_plan(
     table: &[u32],
     count: usize,
     buffer: &mut [u8],

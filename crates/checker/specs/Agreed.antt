@@ -10,7 +10,7 @@ use Rattle.rules.specs.Plans.{jobs, rows_of, is_plan}
 use Rattle.rules.specs.Planning.{PlanAnswer, plan_answer, bad_boards, bad_lists, first_out}
 use Rattle.rules.specs.Checking.{refused_check, bad_table, check_answer}
 use Rattle.laws.specs.Tests.{decided}
-use Rattle.theory.specs.Answers.{answer_right}
+use Rattle.theory.proofs.Answers.{answer_right}
 use Rattle.checker.specs.Answer.{at_boards, at_lists, at_table, at_numbers, at_rows, fit, said_yes, verdict_plan, verdict_no}
 
 -- a yes comes with "rows minus jobs", and only past the checks

@@ -1,8 +1,7 @@
 -- Laws of decimal digits: the count of digits left never runs out, and a number's last digit stands behind the others.
-use Rattle.std.specs.Prelude.{◌≡◌, refl, List, [], ◌∷◌, ◌++◌, ℕ, zero, suc, ◌+◌, ◌*◌, ◌/◌, ◌%◌, ◌≤◌, ◌<◌, length, ltb}
-use Rattle.std.proofs.Common.{sym, ap, ◌∙◌, append_assoc, arith, lt-ltb, le-ltb}
+use Rattle.std.specs.Prelude.{◌≡◌, refl, List, [], ◌∷◌, ◌++◌, ℕ, zero, suc, ◌+◌, ◌/◌, ◌%◌, ◌≤◌, ◌<◌, ltb}
+use Rattle.std.proofs.Common.{sym, ap, ◌∙◌, arith, lt-ltb, le-ltb}
 use Rattle.std.proofs.Math.Decide.{dec_lt}
-use Rattle.rules.specs.Basics.{pick}
 use Rattle.rules.specs.Listings.{digits, decimal}
 use Rattle.laws.specs.Tests.{pick_yes, pick_no}
 

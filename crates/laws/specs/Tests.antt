@@ -1,5 +1,5 @@
 -- Laws of tests: `pick`, `&&`, `||`, `not`, `every` and `some`.
-use Rattle.std.specs.Prelude.{◌≡◌, refl, Bool, true, false, not, ◌&&◌, ◌||◌, List, [], ◌∷◌, ◌⊎◌, ℕ, ◌≤◌, leb}
+use Rattle.std.specs.Prelude.{◌≡◌, refl, Bool, true, false, ◌&&◌, ◌||◌, List, [], ◌∷◌, ◌⊎◌, ℕ, ◌≤◌, leb}
 use Rattle.std.proofs.Common.{sym, ◌∙◌, true≢false, inl, inr, leb-true, le-leb}
 use Rattle.std.proofs.lemmas.Bool.{false≢true}
 use Rattle.rules.specs.Basics.{pick, All, Some, Pairs, every, some, every_pair, within}
@@ -67,7 +67,7 @@ or_no_right false b e = e
 
 pub within_yes : (low high n : ℕ) → low ≤ n → n ≤ high → within low high n ≡ true
 unfolding within
-within_yes low high n p q = and_yes (leb low n) (leb n high) (le-leb low n p) (le-leb n high q)
+within_yes low high n p q = rw (le-leb low n p) (le-leb n high q)
 
 pub within_low : (low high n : ℕ) → within low high n ≡ true → low ≤ n
 unfolding within
@@ -86,7 +86,7 @@ every_all p P f (x ∷ xs) e = (f x (and_left (p x) (every p xs) e), every_all p
 pub all_every : {A : Type 0} (p : A → Bool) (P : A → Type 0) → ((x : A) → P x → p x ≡ true) → (xs : List A) → All P xs → every p xs ≡ true
 unfolding every
 all_every p P f [] a = refl
-all_every p P f (x ∷ xs) a = and_yes (p x) (every p xs) (f x a.0) (all_every p P f xs a.1)
+all_every p P f (x ∷ xs) a = rw (f x a.0) (all_every p P f xs a.1)
 
 pub some_one : {A : Type 0} (p : A → Bool) (P : A → Type 0) → ((x : A) → p x ≡ true → P x) → (xs : List A) → some p xs ≡ true → Some P xs
 unfolding some
@@ -107,7 +107,7 @@ every_pair_pairs p P f (x ∷ xs) e = (every_all (p x) (P x) (f x) xs (and_left 
 pub pairs_every_pair : {A : Type 0} (p : A → A → Bool) (P : A → A → Type 0) → ((x y : A) → P x y → p x y ≡ true) → (xs : List A) → Pairs P xs → every_pair p xs ≡ true
 unfolding every_pair
 pairs_every_pair p P f [] a = refl
-pairs_every_pair p P f (x ∷ xs) a = and_yes (every (p x) xs) (every_pair p xs) (all_every (p x) (P x) (f x) xs a.0) (pairs_every_pair p P f xs a.1)
+pairs_every_pair p P f (x ∷ xs) a = rw (all_every (p x) (P x) (f x) xs a.0) (pairs_every_pair p P f xs a.1)
 
 pub map_all : {A : Type 0} (P Q : A → Type 0) → ((x : A) → P x → Q x) → (xs : List A) → All P xs → All Q xs
 map_all P Q f [] a = tt

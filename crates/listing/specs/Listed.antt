@@ -20,7 +20,7 @@ use Rattle.laws.specs.Stores.{stored}
 use Rattle.laws.specs.Tests.{pick_yes, pick_no, decided, or_no}
 use Rattle.laws.specs.Rows.{length_rows_of}
 use Rattle.theory.specs.DueOrder.{length-jobs}
-use Rattle.theory.specs.Answers.{rows_of_numbers_of, length-numbers_of}
+use Rattle.theory.proofs.Answers.{rows_of_numbers_of, length-numbers_of}
 use Rattle.lines.specs.Digits.{Put}
 use Rattle.lines.specs.Fields.{planned}
 

@@ -1,9 +1,10 @@
 // planlist: an order on standard input, its listing on standard output. All that matters is `listing::list`.
 #![tactic(auto)]
 
-ghost use Rattle.std.specs.Prelude.{◌≡◌, length};
+ghost use Rattle.std.specs.Prelude.{◌≡◌, ◌≤◌, length};
 
-use libc::{STDIN_FILENO, STDOUT_FILENO};
+use std::io;
+use std::io::{Read, Write};
 
 // One byte more than an order may have: such a file is refused as too long, however long it is.
 fn file_room() -> [u8; 65537]
@@ -18,10 +19,24 @@ fn line_room() -> [u8; 90000]
     [0; 90000]
 }
 
-fn main() {
+// Reads until the buffer is full, the input ends or a read fails. The answer is how many bytes came.
+fn read_full<R: Read>(input: &mut R, buffer: &mut [u8]) -> usize
+    ensures { result ≤ length buffer.new }
+{
+    let mut done = 0;
+    while done < buffer.len() {
+        match input.read(&mut buffer[done..]) {
+            Ok(0) | Err(_) => break,
+            Ok(n) => done += n,
+        }
+    }
+    done
+}
+
+fn main(rt: HostRuntime) -> io::Result<()> {
     let mut file = file_room();
-    let length = io::read_full(STDIN_FILENO, &mut file);
+    let length = read_full(&mut rt.stdin(), &mut file);
     let mut lines = line_room();
     let end = listing::list(&file[..length], &mut lines);
-    io::write_all(STDOUT_FILENO, &lines[..end]);
+    io::writer(&rt).write_all(&lines[..end])
 }

@@ -1,5 +1,5 @@
 -- What `planlist` prints for an order on standard input.
-use Rattle.std.specs.Prelude.{Bool, true, false, List, [], ◌∷◌, ◌++◌, ℕ, zero, suc, ◌+◌, ◌*◌, ◌/◌, ◌%◌, length, take, ltb, eqb}
+use Rattle.std.specs.Prelude.{List, [], ◌∷◌, ◌++◌, ℕ, zero, suc, ◌+◌, ◌*◌, ◌/◌, ◌%◌, length, take, ltb, eqb}
 use Rattle.rules.specs.Basics.{pick, text, zeros, most_jobs}
 use Rattle.rules.specs.Plans.{Row, jobs, rows_of, preemptions}
 use Rattle.rules.specs.Orders.{ReadAnswer, read_answer}

@@ -1,5 +1,5 @@
 -- What a plan is (004): as a statement about rows, and as a test that computes.
-use Rattle.std.specs.Prelude.{◌≡◌, Bool, not, ◌&&◌, ◌||◌, List, [], ◌∷◌, ◌++◌, ◌⊎◌, ℕ, zero, suc, ◌+◌, ◌-◌, ◌≤◌, ◌<◌, get_or, drop, length, leb, ltb, eqb}
+use Rattle.std.specs.Prelude.{◌≡◌, Bool, not, ◌&&◌, ◌||◌, List, [], ◌∷◌, ◌⊎◌, ℕ, zero, suc, ◌+◌, ◌-◌, ◌≤◌, ◌<◌, get_or, drop, length, leb, ltb, eqb}
 use Rattle.rules.specs.Basics.{pick, All, Some, Pairs, every, some, every_pair, within}
 
 -- A job of the lists: "Jobs are numbered from 1 as they appear".

@@ -1,5 +1,5 @@
 -- The day sheets P1 to P14, tried on the definitions by a single statement over the list of them.
-use Rattle.std.specs.Prelude.{◌≡◌, refl, Bool, true, false, List, [], ◌∷◌, ℕ, take}
+use Rattle.std.specs.Prelude.{◌≡◌, refl, Bool, true, List, [], ◌∷◌, ℕ, take}
 use Prim.Native.String.{String}
 use Rattle.rules.specs.Basics.{every, some, every_pair, within, text, zeros, most_jobs}
 use Rattle.rules.specs.Refusals.{number_of}

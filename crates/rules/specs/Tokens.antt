@@ -1,5 +1,5 @@
 -- The tokens of an order file, each with the place of its first byte.
-use Rattle.std.specs.Prelude.{Bool, true, false, not, ◌&&◌, ◌||◌, List, [], ◌∷◌, ◌++◌, ℕ, suc, ◌+◌, ◌*◌, ◌-◌, length, get_or, leb, eqb}
+use Rattle.std.specs.Prelude.{Bool, true, false, not, ◌&&◌, ◌||◌, List, [], ◌∷◌, ◌++◌, ℕ, suc, ◌+◌, ◌*◌, ◌-◌, length, get_or, eqb}
 use Rattle.rules.specs.declared.Word.{Word}
 use Rattle.rules.specs.declared.Word.TheVariants.{Order, Group, Job, Number, Other}
 use Rattle.rules.specs.declared.Token.{Token}

@@ -13,7 +13,4 @@ pub mod Minutes
 pub mod Fits
 pub mod Free
 pub mod Covers
-pub mod Unmet
 pub mod Few
-pub mod Proved
-pub mod Answers

@@ -1,9 +1,8 @@
 -- Laws of lists: what holds of a list behind another, and of the same elements in another order.
-use Rattle.std.specs.Prelude.{◌≡◌, refl, Bool, true, false, ◌||◌, List, [], ◌∷◌, ◌++◌, map, ℕ, zero, suc, ◌+◌, ◌<◌, length, get_or, eqb}
-use Rattle.std.proofs.Common.{sym, ◌∙◌, ap, subst, true≢false, inl, inr, arith, ne_eqb}
-use Rattle.std.proofs.Math.Decide.{ℕ_discrete}
+use Rattle.std.specs.Prelude.{◌≡◌, refl, Bool, true, false, ◌||◌, List, [], ◌∷◌, ◌++◌, map, ℕ, zero, suc, ◌+◌, ◌<◌, length, get_or}
+use Rattle.std.proofs.Common.{sym, ◌∙◌, ap, true≢false, inl, inr, arith}
 use Rattle.rules.specs.Basics.{pick, All, Some, Pairs, every, some}
-use Rattle.theory.specs.Demands.{total, distinct}
+use Rattle.theory.specs.Demands.{total}
 use Rattle.laws.specs.Tests.{map_all, decided, and_yes, and_left, and_right}
 
 -- a test's two ways, each with its equation
@@ -143,20 +142,6 @@ same_test p same_none = refl
 same_test p (same_one {x = x} s) = ap (λ (b : Bool). p x || b) (same_test p s)
 same_test p (same_two {x = x} {y = y} {xs = xs}) = or_swap (p x) (p y) (some p xs)
 same_test p (same_then s t) = same_test p s ∙ same_test p t
-
-same_swapped : (x y : ℕ) (xs : List ℕ) → x ≡ y → distinct (x ∷ y ∷ xs) ≡ distinct (y ∷ x ∷ xs)
-same_swapped x y xs e = let P : ℕ → Type 0 = λ v. distinct (x ∷ v ∷ xs) ≡ distinct (v ∷ x ∷ xs) in subst P e refl
-
-pub same_distinct : {xs ys : List ℕ} → Same xs ys → distinct xs ≡ distinct ys
-unfolding distinct some
-same_distinct same_none = refl
-same_distinct (same_one {x = x} s) = rw (same_test (eqb x) s, same_distinct s)
-same_distinct (same_two {x = x} {y = y} {xs = xs}) =
-    elim (ℕ_discrete x y) [
-      | yes e ↦ same_swapped x y xs e
-      | no n ↦ rw (ne_eqb x y n, ne_eqb y x (λ e. n (sym e))) (omega arith)
-    ]
-same_distinct (same_then s t) = same_distinct s ∙ same_distinct t
 
 -- a fact of each place of a list: of the first, and of those after it
 

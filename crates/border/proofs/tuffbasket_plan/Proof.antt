@@ -1,5 +1,5 @@
 -- The planner's answer is the definition's, of which crates/theory proves that it is right.
-use Rattle.theory.specs.Answers.{said_right}
+use Rattle.theory.proofs.Answers.{said_right}
 use borrow.Author.Rules.{rules}
 use Rattle.border.proofs.tuffbasket_plan.Statement.{statement}
 use Rattle.border.proofs.tuffbasket_plan.Tie as tie
