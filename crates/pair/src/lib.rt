@@ -180,9 +180,9 @@ pub fn read_order(file: &[u8], work: &mut [u32], due: &mut [u32]) -> OrderRead
     answer(ended, work, due)
 }
 
-// For comparing the pair with the reader that ships; this crate's archive is linked into tests alone.
-#[unsafe(no_mangle)]
-pub extern "C" fn pair_read_order(file: &[u8], work: &mut [u32], due: &mut [u32]) -> OrderRead
+// For comparing the pair with the reader that ships: crates/pair_c exports it, and its archive is linked into the comparisons
+// alone.
+pub fn pair_read_order(file: &[u8], work: &mut [u32], due: &mut [u32]) -> OrderRead
     ensures said { result ≡ (read_answer file.now work.old due.old).said }
     ensures works { work.new ≡ (read_answer file.now work.old due.old).work }
     ensures dues { due.new ≡ (read_answer file.now work.old due.old).due }
