@@ -134,11 +134,11 @@ answered m works dues table count r e = (e, says_plans m works dues table count 
 
 -- what the tests of a day leave for the rows
 pub record Fit (m : ℕ) (works dues table : List ℕ) (count : ℕ) : Type 0 where
-  pub most_boards_lem : m ≤ 64
-  pub most_rows_lem : count ≤ 2000
+  pub boards_fit : m ≤ 64
+  pub rows_fit : count ≤ 2000
   pub whole : 4 * count ≤ length table
   pub even : length works ≡ length dues
-  pub most_jobs_lem : length works ≤ 1000
+  pub jobs_fit : length works ≤ 1000
   pub small : (i : ℕ) → i < length dues → get_or dues i 0 ≤ most_minutes
 
 small_from : (k : ℕ) (works dues : List ℕ) → length works ≡ length dues → first_out_from (suc k) works dues ≤ 0 → (i : ℕ) → i < length dues → get_or dues i 0 ≤ most_minutes
@@ -170,11 +170,11 @@ fit m works dues table count b l t o =
     let fits = not-false (eqb (length works) (length dues) && within 1 most_jobs (length works)) l in
     let even : length works ≡ length dues = eqb-true (length works) (length dues) (and_left (eqb (length works) (length dues)) (within 1 most_jobs (length works)) fits) in
     record {
-      most_boards_lem = within_high 1 most_boards m (not-false (within 1 most_boards m) b);
-      most_rows_lem = ltb-false most_rows count (or_no_left (ltb most_rows count) (ltb (length table) (4 * count)) t);
+      boards_fit = within_high 1 most_boards m (not-false (within 1 most_boards m) b);
+      rows_fit = ltb-false most_rows count (or_no_left (ltb most_rows count) (ltb (length table) (4 * count)) t);
       whole = ltb-false (length table) (4 * count) (or_no_right (ltb most_rows count) (ltb (length table) (4 * count)) t);
       even = even;
-      most_jobs_lem = few_jobs works dues l;
+      jobs_fit = few_jobs works dues l;
       small = small_from 0 works dues even o;
     }
 

@@ -1,5 +1,5 @@
 -- The rows of a table by their places: row i, counted from 0, and a test of every row as a test of every place.
-use Rattle.std.specs.Prelude.{◌≡◌, refl, Bool, ◌&&◌, List, [], ◌∷◌, ◌++◌, ℕ, zero, suc, ◌+◌, ◌*◌, ◌-◌, length, get_or, drop}
+use Rattle.std.specs.Prelude.{◌≡◌, refl, Bool, ◌&&◌, List, [], ◌∷◌, ◌++◌, ℕ, zero, suc, ◌+◌, ◌*◌, length, get_or, drop}
 use Rattle.std.proofs.Common.{sym, ap, ap₂, ◌∙◌, arith, add-zero, zero-add, get_or-drop, drop-drop}
 use Rattle.rules.specs.Basics.{every}
 use Rattle.rules.specs.Plans.{Row, first_row, rows_of}

@@ -1,2 +1,2 @@
 -- What several of the crate's proofs cite of declared types.
-pub mod Tags
+pub mod Others

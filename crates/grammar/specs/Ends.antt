@@ -1,11 +1,8 @@
 -- Laws of the whole answer: what each way out of the reader says and leaves in the buffers.
-use Rattle.std.specs.Prelude.{◌≡◌, false, ◌||◌, List, ◌++◌, ℕ, ◌-◌, ◌≤◌, ◌<◌, min, length}
-use Rattle.std.proofs.Math.Path.{refl, ap, subst}
-use Rattle.std.proofs.Common.{sym, ◌∙◌, arith, length-take-le, lt-ltb, le-ltb}
+use Rattle.std.specs.Prelude.{◌≡◌, refl, false, ◌||◌, List, ◌++◌, ℕ, ◌-◌, ◌≤◌, ◌<◌, min, length, take, ltb}
+use Rattle.std.proofs.Common.{ap, subst, sym, ◌∙◌, arith, length-take-le, lt-ltb, le-ltb}
 use Rattle.std.proofs.Math.Decide.{dec_le}
 use Rattle.std.proofs.Math.Nat.{sub-zero}
-use Rattle.std.proofs.Math.ListN.{take}
-use Rattle.std.proofs.Math.Dec.{ltb}
 use Rattle.rules.specs.declared.Refusal.{Refusal}
 use Rattle.rules.specs.declared.Refusal.TheVariants.{ShortBuffer, LongFile}
 use Rattle.rules.specs.declared.OrderRead.{OrderRead}

@@ -1,11 +1,7 @@
 -- Laws of the definition's steps and of what the lists hold, for the proofs to cite.
-use Rattle.std.specs.Prelude.{◌≡◌, Bool, true, false, ℕ, suc, ◌+◌, ◌-◌, ◌≤◌, ◌<◌, min, set, leb, eqb}
-use Rattle.std.proofs.Math.Path.{refl, ap, subst}
-use Rattle.std.proofs.Common.{sym, ◌∙◌, true≢false, add-one, arith, take-suc-set, take_all, get_or-set_other, eq-eqb, ne_eqb}
-use mathlib.Core.List.{List, [], ◌∷◌, ◌++◌, append_assoc}
-use Rattle.std.proofs.Math.ListN.{length, take, get_or, length-append}
+use Rattle.std.specs.Prelude.{◌≡◌, refl, Bool, true, false, List, [], ◌∷◌, ◌++◌, ℕ, suc, ◌+◌, ◌-◌, ◌≤◌, ◌<◌, min, length, take, get_or, set, leb, eqb}
+use Rattle.std.proofs.Common.{ap, subst, sym, ◌∙◌, true≢false, add-one, arith, append_assoc, length-append, take-suc-set, take_all, get_or-set_other, get_or-set_same, eq-eqb, ne_eqb}
 use Rattle.std.proofs.lemmas.List.{replicate-append-replicate}
-use Rattle.std.proofs.Math.Seq.{get_or-set_same}
 use Rattle.rules.specs.declared.Word.{Word}
 use Rattle.rules.specs.declared.Word.TheVariants.{Order, Group, Job, Number, Other}
 use Rattle.rules.specs.declared.Token.{Token}

@@ -13,8 +13,14 @@ ghost use Rattle.grammar.specs.Turns.{acted, meant, misplaced_as, capped, Decide
 use refusals::number;
 use rules::{OrderRead, Refusal, Token, Wanted, Word};
 
+// 01: "level 32 is the deepest".
+const MOST_LEVELS: usize = 32;
+
+// 01: 7, "a 1,001st job".
+const MOST_JOBS: usize = 1000;
+
 // Where the reader stands.
-#[derive(Drop)]
+#[derive(Clone, Copy)]
 pub struct State {
     pub wanted: Wanted,
     pub boards: u32,
@@ -25,7 +31,7 @@ pub struct State {
 // What one token leads to: on to the next thing wanted, with the number that was wanted, or out of the innermost group or the
 // order; or to the end, where a refusal comes with its place. One flat enum: the compiler stores an enum within an enum in
 // pieces and reads it back as one word, which made the reader half as slow again.
-#[derive(Drop)]
+#[derive(Clone, Copy)]
 pub enum Turn {
     Want(Wanted),
     Take(u32),
@@ -35,7 +41,7 @@ pub enum Turn {
 }
 
 // How the reading ended: a refusal with its place, or boards and job count.
-#[derive(Drop)]
+#[derive(Clone, Copy)]
 pub enum Ended {
     Refused(Refusal, usize),
     Accepted(u32, usize),
@@ -156,7 +162,7 @@ fn end_wanted(token: Token, place: usize, ends: Turn) -> Turn
 fn group_begins(level: usize, place: usize) -> Turn
     ensures { (r : Reading) → meant r result ≡ pick (ltb level most_levels) (want r Wanted.GroupDue) (stop Refusal.TooDeep place) }
 {
-    if level < 32 {
+    if level < MOST_LEVELS {
         return Turn::Want(Wanted::GroupDue);
     }
     Turn::Stop(Refusal::TooDeep, place)
@@ -166,7 +172,7 @@ fn group_begins(level: usize, place: usize) -> Turn
 fn job_begins(jobs: usize, place: usize) -> Turn
     ensures { (r : Reading) → meant r result ≡ pick (ltb jobs most_jobs) (want r Wanted.JobWork) (stop Refusal.TooManyJobs place) }
 {
-    if jobs < 1000 {
+    if jobs < MOST_JOBS {
         return Turn::Want(Wanted::JobWork);
     }
     Turn::Stop(Refusal::TooManyJobs, place)

@@ -102,6 +102,9 @@ fn all_digits(w: &[u8]) -> bool
     true
 }
 
+// 01: "A number is 1 to 7 digits"; crates/rules/specs/Basics.antt has it as most_digits.
+const MOST_DIGITS: usize = 7;
+
 // 01: "A number is 1 to 7 digits, the first not 0".
 fn is_number(w: &[u8]) -> bool
     ensures { result ≡ is_number w.now }
@@ -109,7 +112,7 @@ fn is_number(w: &[u8]) -> bool
     if w.len() == 0 {
         return false;
     }
-    if 7 < w.len() {
+    if MOST_DIGITS < w.len() {
         return false;
     }
     if w[0] == 48 {

@@ -1,6 +1,6 @@
 -- A number's digits from the first on.
 use Rattle.std.specs.Prelude.{◌≡◌, refl, List, [], ◌∷◌, ◌++◌, ℕ, zero, suc, ◌+◌, ◌*◌, ◌-◌, ◌/◌, ◌%◌, ◌^◌, ◌≤◌, ◌<◌, length}
-use Rattle.std.proofs.Common.{sym, ap, ap₂, ◌∙◌, append_assoc, append-nil, arith, le-div_iff_mul-le, pow-suc, le_trans, div-one, mul_comm, mul-div_cancel, lt_irrefl, lt_of_le_of_lt, add-one, length-append, lit<, lit≤}
+use Rattle.std.proofs.Common.{sym, ap, ◌∙◌, append_assoc, append-nil, arith, le-div_iff_mul-le, pow-suc, div-one, mul_comm, mul-div_cancel, add-one, length-append, lit<, lit≤}
 use Rattle.std.proofs.Math.Decide.{dec_le}
 use Rattle.std.proofs.Math.Nat.{div-div-eq-div-mul, pow-le-pow_right}
 use Rattle.laws.specs.Stores.{stored, stored_none, behind, length-stored}
@@ -88,14 +88,14 @@ digits_all n p left l =
     ∙ digits_split n left (λ h. rw same (l.some h))
 
 -- some digits were put; `left` more follow, the next of the power p
-pub record Digits_put (b₀ : List ℕ) (at n p left : ℕ) (b : List ℕ) (to : ℕ) : Type 0 where
+pub record DigitsPut (b₀ : List ℕ) (at n p left : ℕ) (b : List ℕ) (to : ℕ) : Type 0 where
   pub power : 0 < left → p ≡ 10 ^ (left - 1)
   pub front : List ℕ
   pub whole : front ++ digits_from n left ≡ decimal n
   pub put : Put b₀ at front b to
   pub room : to + left ≤ at + 10
 
-pub digits_none : (b : List ℕ) (at n p left : ℕ) → IsLead n p left → Digits_put b at n p (left + 1) b at
+pub digits_none : (b : List ℕ) (at n p left : ℕ) → IsLead n p left → DigitsPut b at n p (left + 1) b at
 digits_none b at n p left l =
     let up : left + 1 - 1 ≡ left = omega arith in
     record {
@@ -106,14 +106,14 @@ digits_none b at n p left l =
       room = omega (arith, l.few);
     }
 
-pub digits_pos : (b₀ b : List ℕ) (at n p left to : ℕ) → Digits_put b₀ at n p left b to → 0 < left → 0 < p
+pub digits_pos : (b₀ b : List ℕ) (at n p left to : ℕ) → DigitsPut b₀ at n p left b to → 0 < left → 0 < p
 digits_pos b₀ b at n p left to d h = rw (d.power h) (power_pos (left - 1))
 
-pub digits_length : (b₀ b : List ℕ) (at n p left to : ℕ) → at + 10 ≤ length b₀ → Digits_put b₀ at n p left b to → length b ≡ length b₀
+pub digits_length : (b₀ b : List ℕ) (at n p left to : ℕ) → at + 10 ≤ length b₀ → DigitsPut b₀ at n p left b to → length b ≡ length b₀
 digits_length b₀ b at n p left to h d =
     ap length d.put.holds ∙ length-stored b₀ at d.front (omega (arith, d.put.ends, d.room))
 
-pub digits_next : (b₀ b b' : List ℕ) (at n p left to x : ℕ) → at + 10 ≤ length b₀ → 0 < left → Digits_put b₀ at n p left b to → x ≡ 48 + n / p % 10 → b' ≡ stored b to (x ∷ []) → Digits_put b₀ at n (p / 10) (left - 1) b' (to + 1)
+pub digits_next : (b₀ b b' : List ℕ) (at n p left to x : ℕ) → at + 10 ≤ length b₀ → 0 < left → DigitsPut b₀ at n p left b to → x ≡ 48 + n / p % 10 → b' ≡ stored b to (x ∷ []) → DigitsPut b₀ at n (p / 10) (left - 1) b' (to + 1)
 unfolding digits_from
 digits_next b₀ b b' at n p left to x fits h d e s =
     let k = left - 1 in
@@ -143,7 +143,7 @@ digits_next b₀ b b' at n p left to x fits h d e s =
         ap (λ (y : ℕ). y / 10) (e ∙ ap (λ (j : ℕ). 10 ^ j) up ∙ pow-suc 10 (k - 1)) ∙ mul-div_cancel (10 ^ (k - 1)) {n = 10} (lit< tt)
 
 -- no digit left: the number is put whole
-pub digits_done : (b₀ b : List ℕ) (at n p left to : ℕ) → left ≤ 0 → Digits_put b₀ at n p left b to → Put b₀ at (decimal n) b to × (to ≤ at + 10)
+pub digits_done : (b₀ b : List ℕ) (at n p left to : ℕ) → left ≤ 0 → DigitsPut b₀ at n p left b to → Put b₀ at (decimal n) b to × (to ≤ at + 10)
 unfolding digits_from
 digits_done b₀ b at n p left to h d =
     let none : left ≡ 0 = omega arith in

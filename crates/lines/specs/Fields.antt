@@ -1,6 +1,6 @@
 -- Puts one behind the other: fields, rows and lines.
-use Rattle.std.specs.Prelude.{◌≡◌, refl, List, [], ◌∷◌, ◌++◌, ℕ, zero, suc, ◌+◌, ◌*◌, ◌-◌, ◌≤◌, ◌<◌, length, get_or, take, drop}
-use Rattle.std.proofs.Common.{sym, ap, ap₂, ◌∙◌, append_assoc, append-nil, arith, sub-eq-zero_of_le, add-zero, add-one, length-append, length-drop, drop_of_length-le, drop-cons, drop-drop, take-suc, take_all, length-take-le}
+use Rattle.std.specs.Prelude.{◌≡◌, refl, List, [], ◌∷◌, ◌++◌, ℕ, suc, ◌+◌, ◌*◌, ◌-◌, ◌≤◌, ◌<◌, length, get_or, take, drop}
+use Rattle.std.proofs.Common.{sym, ap, ◌∙◌, append_assoc, append-nil, arith, sub-eq-zero_of_le, add-zero, add-one, length-append, length-drop, drop_of_length-le, drop-cons, drop-drop, take-suc, take_all, length-take-le}
 use Rattle.std.proofs.Math.Nat.{sub-zero, add-sub_cancel_left}
 use Rattle.rules.specs.Basics.{text}
 use Rattle.laws.specs.Stores.{stored, stored_none, behind, length-stored}
@@ -25,19 +25,19 @@ put_then b₀ b b' at to to' v w h p q = record {
 }
 
 -- some fields were put; those from i on follow
-pub record Fields_put (b₀ : List ℕ) (at : ℕ) (ns : List ℕ) (i : ℕ) (b : List ℕ) (to : ℕ) : Type 0 where
+pub record FieldsPut (b₀ : List ℕ) (at : ℕ) (ns : List ℕ) (i : ℕ) (b : List ℕ) (to : ℕ) : Type 0 where
   pub front : List ℕ
   pub whole : front ++ fields (drop i ns) ≡ fields ns
   pub put : Put b₀ at front b to
   pub room : to ≤ at + 11 * i
 
-pub fields_none : (b : List ℕ) (at : ℕ) (ns : List ℕ) → Fields_put b at ns 0 b at
+pub fields_none : (b : List ℕ) (at : ℕ) (ns : List ℕ) → FieldsPut b at ns 0 b at
 fields_none b at ns = record { front = []; whole = refl; put = put_none b at; room = omega arith }
 
-pub fields_length : (b₀ b : List ℕ) (at : ℕ) (ns : List ℕ) (i to : ℕ) → at + 11 * length ns + 1 ≤ length b₀ → i ≤ length ns → Fields_put b₀ at ns i b to → length b ≡ length b₀
+pub fields_length : (b₀ b : List ℕ) (at : ℕ) (ns : List ℕ) (i to : ℕ) → at + 11 * length ns + 1 ≤ length b₀ → i ≤ length ns → FieldsPut b₀ at ns i b to → length b ≡ length b₀
 fields_length b₀ b at ns i to h l f = put_length b₀ b at to f.front (omega (arith, f.room)) f.put
 
-pub fields_more : (b₀ b b' : List ℕ) (at : ℕ) (ns : List ℕ) (i to to' : ℕ) → at + 11 * length ns + 1 ≤ length b₀ → i < length ns → Fields_put b₀ at ns i b to → Put b to (32 ∷ decimal (get_or ns i 0)) b' to' → to' ≤ to + 11 → Fields_put b₀ at ns (i + 1) b' to'
+pub fields_more : (b₀ b b' : List ℕ) (at : ℕ) (ns : List ℕ) (i to to' : ℕ) → at + 11 * length ns + 1 ≤ length b₀ → i < length ns → FieldsPut b₀ at ns i b to → Put b to (32 ∷ decimal (get_or ns i 0)) b' to' → to' ≤ to + 11 → FieldsPut b₀ at ns (i + 1) b' to'
 unfolding fields
 fields_more b₀ b b' at ns i to to' h l f p r =
     let v : List ℕ = 32 ∷ decimal (get_or ns i 0) in
@@ -52,7 +52,7 @@ fields_more b₀ b b' at ns i to to' h l f p r =
       room = omega (arith, f.room);
     }
 
-pub fields_done : (b₀ b b' : List ℕ) (at : ℕ) (ns : List ℕ) (i to : ℕ) → at + 11 * length ns + 1 ≤ length b₀ → i ≡ length ns → Fields_put b₀ at ns i b to → b' ≡ stored b to (10 ∷ []) → Put b₀ at (fields ns) b' (to + 1)
+pub fields_done : (b₀ b b' : List ℕ) (at : ℕ) (ns : List ℕ) (i to : ℕ) → at + 11 * length ns + 1 ≤ length b₀ → i ≡ length ns → FieldsPut b₀ at ns i b to → b' ≡ stored b to (10 ∷ []) → Put b₀ at (fields ns) b' (to + 1)
 unfolding fields
 fields_done b₀ b b' at ns i to h e f p =
     let none : drop i ns ≡ [] = drop_of_length-le ns {i = i} (omega arith) in
@@ -70,13 +70,13 @@ unfoldable pub planned : List ℕ → List Row → List ℕ
 planned first rows = text "plan" ++ (fields first ++ row_lines rows)
 
 -- some rows were put; those from i on follow
-pub record Rows_put (b₀ : List ℕ) (at : ℕ) (t : List ℕ) (count i : ℕ) (b : List ℕ) (to : ℕ) : Type 0 where
+pub record RowsPut (b₀ : List ℕ) (at : ℕ) (t : List ℕ) (count i : ℕ) (b : List ℕ) (to : ℕ) : Type 0 where
   pub front : List ℕ
   pub whole : front ++ row_lines (rows_of (count - i) (drop (4 * i) t)) ≡ row_lines (rows_of count t)
   pub put : Put b₀ at front b to
   pub room : to ≤ at + 44 * i
 
-pub rows_none : (b : List ℕ) (at : ℕ) (t : List ℕ) (count : ℕ) → Rows_put b at t count 0 b at
+pub rows_none : (b : List ℕ) (at : ℕ) (t : List ℕ) (count : ℕ) → RowsPut b at t count 0 b at
 rows_none b at t count = record {
   front = [];
   whole = ap (λ (n : ℕ). row_lines (rows_of n t)) (sub-zero count);
@@ -84,7 +84,7 @@ rows_none b at t count = record {
   room = omega arith;
 }
 
-pub rows-length : (b₀ b : List ℕ) (at : ℕ) (t : List ℕ) (count i to : ℕ) → at + 44 * count ≤ length b₀ → i ≤ count → Rows_put b₀ at t count i b to → length b ≡ length b₀
+pub rows-length : (b₀ b : List ℕ) (at : ℕ) (t : List ℕ) (count i to : ℕ) → at + 44 * count ≤ length b₀ → i ≤ count → RowsPut b₀ at t count i b to → length b ≡ length b₀
 rows-length b₀ b at t count i to h l f = put_length b₀ b at to f.front (omega (arith, f.room)) f.put
 
 rows-cons : (t : List ℕ) (count i : ℕ) → i < count → rows_of (count - i) (drop (4 * i) t) ≡ first_row (drop (4 * i) t) ∷ rows_of (count - (i + 1)) (drop (4 * (i + 1)) t)
@@ -104,7 +104,7 @@ row_cut (a ∷ b ∷ []) = refl
 row_cut (a ∷ b ∷ c ∷ []) = refl
 row_cut (a ∷ b ∷ c ∷ d ∷ t) = refl
 
-pub rows_more : (b₀ b b' : List ℕ) (at : ℕ) (t : List ℕ) (count i to to' : ℕ) (row : List ℕ) → at + 44 * count ≤ length b₀ → i < count → row ≡ take 4 (drop (4 * i) t) → Rows_put b₀ at t count i b to → Put b to (row_line (first_row row)) b' to' → to' ≤ to + 44 → Rows_put b₀ at t count (i + 1) b' to'
+pub rows_more : (b₀ b b' : List ℕ) (at : ℕ) (t : List ℕ) (count i to to' : ℕ) (row : List ℕ) → at + 44 * count ≤ length b₀ → i < count → row ≡ take 4 (drop (4 * i) t) → RowsPut b₀ at t count i b to → Put b to (row_line (first_row row)) b' to' → to' ≤ to + 44 → RowsPut b₀ at t count (i + 1) b' to'
 unfolding row_lines row_line
 rows_more b₀ b b' at t count i to to' row h l e f p r =
     let x : Row = first_row (drop (4 * i) t) in
@@ -121,7 +121,7 @@ rows_more b₀ b b' at t count i to to' row h l e f p r =
       room = omega (arith, f.room);
     }
 
-pub rows_done : (b₀ b : List ℕ) (at : ℕ) (t : List ℕ) (count i to : ℕ) → count ≤ i → Rows_put b₀ at t count i b to → Put b₀ at (row_lines (rows_of count t)) b to
+pub rows_done : (b₀ b : List ℕ) (at : ℕ) (t : List ℕ) (count i to : ℕ) → count ≤ i → RowsPut b₀ at t count i b to → Put b₀ at (row_lines (rows_of count t)) b to
 unfolding row_lines rows_of
 rows_done b₀ b at t count i to h f =
     let all : f.front ≡ row_lines (rows_of count t) =

@@ -16,7 +16,7 @@ use lexer::next_token;
 use rules::{OrderRead, Refusal, Wanted};
 
 // A later place and the state there, or how the reading ended.
-#[derive(Drop)]
+#[derive(Clone, Copy)]
 pub enum Reached {
     On(State, usize),
     Off(Ended),
@@ -74,7 +74,7 @@ fn three(
 }
 
 // An item behind its opening bracket: a job, or a group with its due and its items.
-#[cycle(group_item)]
+#[cycle(items)]
 fn item(
     file: &[u8],
     at: usize,
@@ -103,7 +103,7 @@ fn item(
 }
 
 // The items of a group or of the order, and the closing bracket.
-#[cycle(group_item)]
+#[cycle(items)]
 fn group(
     file: &[u8],
     at: usize,
@@ -180,9 +180,9 @@ pub fn read_order(file: &[u8], work: &mut [u32], due: &mut [u32]) -> OrderRead
     answer(ended, work, due)
 }
 
-// For comparing the pair with the reader that ships; this crate's archive is linked into tests alone.
-#[unsafe(no_mangle)]
-pub extern "C" fn pair_read_order(file: &[u8], work: &mut [u32], due: &mut [u32]) -> OrderRead
+// For comparing the pair with the reader that ships: crates/pair_c exports it, and its archive is linked into the comparisons
+// alone.
+pub fn pair_read_order(file: &[u8], work: &mut [u32], due: &mut [u32]) -> OrderRead
     ensures said { result ≡ (read_answer file.now work.old due.old).said }
     ensures works { work.new ≡ (read_answer file.now work.old due.old).work }
     ensures dues { due.new ≡ (read_answer file.now work.old due.old).due }

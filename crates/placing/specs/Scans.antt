@@ -1,8 +1,6 @@
 -- Laws of `scan`, from board `i` on: the end, a room that is chosen, one that is not.
-use Rattle.std.specs.Prelude.{◌≡◌, refl, Bool, true, false, ◌&&◌, ◌||◌, ℕ, zero, suc, ◌+◌, ◌-◌, ◌≤◌, ◌<◌, length, drop, get_or, leb, ltb, eqb}
-use Rattle.std.proofs.Math.Path.{sym, ap}
-use Rattle.std.proofs.Common.{◌∙◌, add-one, arith, drop_of_length-le, lt-ltb, le-ltb, eq-eqb, ne_eqb}
-use mathlib.Core.List.{List, [], ◌∷◌}
+use Rattle.std.specs.Prelude.{◌≡◌, refl, Bool, true, false, ◌&&◌, ◌||◌, ℕ, zero, suc, ◌+◌, ◌-◌, ◌≤◌, ◌<◌, length, drop, get_or, leb, ltb, eqb, List, [], ◌∷◌}
+use Rattle.std.proofs.Common.{◌∙◌, add-one, arith, drop_of_length-le, lt-ltb, le-ltb, eq-eqb, ne_eqb, sym, ap}
 use Rattle.std.proofs.lemmas.List.{length-map}
 use Rattle.rules.specs.declared.Spot.{Spot}
 use Rattle.rules.specs.Basics.{pick}

@@ -1,10 +1,7 @@
 -- The steps by the tests that the code makes: each test of 01 over every room is one of the greatest or of the least room.
-use Rattle.std.specs.Prelude.{◌≡◌, Bool, false, ◌&&◌, List, [], ◌∷◌, ℕ, zero, suc, ◌-◌, ◌≤◌, ◌<◌, length, leb, eqb}
-use Rattle.std.proofs.Common.{sym, ◌∙◌, ap, inl, inr}
-use Rattle.std.proofs.Math.Bool.{true}
-use native.Mathlib.Omega.{arith}
-use Rattle.std.proofs.Math.Dec.{ltb}
-use borrow.Author.Tests.{ltb-true, ltb-false, lt-ltb, le-ltb, le-leb, lt-leb, eq-eqb, ne_eqb}
+use Rattle.std.specs.Prelude.{◌≡◌, Bool, false, ◌&&◌, List, [], ◌∷◌, ℕ, zero, suc, ◌-◌, ◌≤◌, ◌<◌, length, leb, eqb, true, ltb}
+use Rattle.std.proofs.Common.{sym, ◌∙◌, ap, inl, inr, arith, ltb-true, ltb-false, lt-ltb, le-ltb, le-leb, eq-eqb, ne_eqb}
+use Rattle.std.proofs.lemmas.Bool.{lt-leb}
 use Rattle.rules.specs.Basics.{All, every}
 use Rattle.rules.specs.Planning.{cannot, rooms, greatest_up_to, least_above, one_row, two_rows, place_last, place_other}
 use Rattle.laws.specs.Tests.{pick_yes, pick_no, and_yes, and_no_left, or_right, or_no, all_every}

@@ -1,12 +1,7 @@
 -- What the code has written, against the definitions: one law for each way out.
-use Rattle.std.specs.Prelude.{◌≡◌, refl, set}
-use Rattle.std.proofs.Common.{sym, ◌∙◌, Fits, ne_eqb}
-use Rattle.std.proofs.Math.Path.{ap}
-use mathlib.Core.List.{List, [], ◌∷◌}
-use Prim.Native.Nat.{ℕ, suc, ◌+◌, ◌*◌, ◌-◌, ◌≤◌, ◌<◌}
-use native.Mathlib.Omega.{arith}
+use Rattle.std.specs.Prelude.{◌≡◌, refl, set, List, [], ◌∷◌, ℕ, suc, ◌+◌, ◌*◌, ◌-◌, ◌≤◌, ◌<◌, length, get_or}
+use Rattle.std.proofs.Common.{sym, ◌∙◌, Fits, ne_eqb, ap, arith, length-set}
 use Rattle.std.specs.Int.{w32}
-use Rattle.std.proofs.Math.ListN.{length, get_or, length-set}
 use Rattle.std.proofs.Math.Seq.{sets, length-sets}
 use Rattle.rules.specs.declared.Spot.{Spot}
 use Rattle.rules.specs.Plans.{numbers_of}

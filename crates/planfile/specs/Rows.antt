@@ -1,5 +1,5 @@
 -- A row of a row part, as the four numbers that the decoder answers.
-use Rattle.std.specs.Prelude.{◌≡◌, refl, List, ℕ, ◌+◌, ◌*◌, ◌≤◌, ◌<◌, length, take, drop}
+use Rattle.std.specs.Prelude.{◌≡◌, refl, List, ℕ, ◌+◌, ◌*◌, ◌<◌, take, drop}
 use Rattle.std.proofs.Common.{sym, ap, ◌∙◌, arith, drop_of_length-le, drop-drop}
 use Rattle.rules.specs.Plans.{Row}
 use Rattle.rules.specs.PlanFiles.{value_of, decode_row, part_of}

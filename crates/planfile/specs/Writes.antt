@@ -1,11 +1,9 @@
 -- Laws of the writer's answer: the rows one by one, and one law for each way out.
-use Rattle.std.specs.Prelude.{◌≡◌, refl, true, false, ◌||◌, List, [], ◌∷◌, ◌++◌, ℕ, zero, suc, ◌+◌, ◌*◌, ◌-◌, ◌/◌, ◌≤◌, ◌<◌, length, get_or, take, drop, leb}
-use Rattle.std.proofs.Math.Path.{sym}
-use Rattle.std.proofs.Common.{ap, ap₂, ◌∙◌, append_assoc, append-nil, arith, length-append, length-drop, drop_of_length-le, drop-drop, get_or-drop, take_all, add-zero, sub-eq-zero_of_le, lt-ltb, le-ltb, le-leb, add-one}
+use Rattle.std.specs.Prelude.{◌≡◌, refl, true, false, ◌||◌, List, [], ◌∷◌, ◌++◌, ℕ, zero, suc, ◌+◌, ◌*◌, ◌-◌, ◌/◌, ◌≤◌, ◌<◌, length, get_or, take, drop, leb, ltb}
+use Rattle.std.proofs.Common.{sym, ap, ◌∙◌, append_assoc, append-nil, arith, length-append, length-drop, drop_of_length-le, drop-drop, get_or-drop, take_all, add-zero, sub-eq-zero_of_le, lt-ltb, le-ltb, le-leb, add-one}
 use Rattle.std.proofs.Math.Nat.{sub-zero}
 use Rattle.std.proofs.lemmas.Bool.{lt-leb}
 use Rattle.laws.specs.Tests.{pick_yes, pick_no, and_yes, and_no_left, and_no_right, or_left, or_right, or_no}
-use Rattle.std.proofs.Math.Dec.{ltb}
 use Rattle.rules.specs.declared.Refusal.{Refusal}
 use Rattle.rules.specs.declared.Refusal.TheVariants.{BadLists, LongFile, OutOfRange, ShortBuffer}
 use Rattle.rules.specs.declared.Written.{Written}
@@ -63,18 +61,18 @@ bytes_snoc i t =
     ∙ rows_bytes-append (rows_of i t) (table_row_at t i ∷ [])
     ∙ ap (λ (l : List ℕ). rows_bytes (rows_of i t) ++ l) (append-nil (row_bytes (table_row_at t i)))
 
-abbrev pub Rows_put : List ℕ → List ℕ → ℕ → List ℕ → Type 0
-Rows_put b₀ t i b = b ≡ stored b₀ 0 (rows_bytes (rows_of i t))
+abbrev pub RowsPut : List ℕ → List ℕ → ℕ → List ℕ → Type 0
+RowsPut b₀ t i b = b ≡ stored b₀ 0 (rows_bytes (rows_of i t))
 
-pub rows_none : (b t : List ℕ) → Rows_put b t 0 b
+pub rows_none : (b t : List ℕ) → RowsPut b t 0 b
 unfolding stored rows_of rows_bytes
 rows_none b t = refl
 
-pub rows-length : (b₀ t : List ℕ) (i : ℕ) (b : List ℕ) → 12 * i ≤ length b₀ → Rows_put b₀ t i b → length b ≡ length b₀
+pub rows-length : (b₀ t : List ℕ) (i : ℕ) (b : List ℕ) → 12 * i ≤ length b₀ → RowsPut b₀ t i b → length b ≡ length b₀
 rows-length b₀ t i b h e =
     ap length e ∙ length-stored b₀ 0 (rows_bytes (rows_of i t)) (omega (arith, length-rows_bytes (rows_of i t), length_rows_of i t))
 
-pub rows_more : (b₀ t : List ℕ) (i : ℕ) (b b' : List ℕ) → 12 * i + 12 ≤ length b₀ → Rows_put b₀ t i b → b' ≡ stored b (12 * i) (row_bytes (table_row_at t i)) → Rows_put b₀ t (i + 1) b'
+pub rows_more : (b₀ t : List ℕ) (i : ℕ) (b b' : List ℕ) → 12 * i + 12 ≤ length b₀ → RowsPut b₀ t i b → b' ≡ stored b (12 * i) (row_bytes (table_row_at t i)) → RowsPut b₀ t (i + 1) b'
 rows_more b₀ t i b b' h p q =
     behind b₀ b b' 0 (12 * i) (rows_bytes (rows_of i t)) (row_bytes (table_row_at t i)) p q
     (omega (arith, length-rows_bytes (rows_of i t), length_rows_of i t))
@@ -83,10 +81,10 @@ rows_more b₀ t i b b' h p q =
 
 -- ---- the first row that is too wide
 
-abbrev pub Wide_from : List ℕ → ℕ → ℕ → Type 0
-Wide_from t count i = first_wide_from (suc i) (rows_of (count - i) (drop (4 * i) t)) ≡ first_wide (rows_of count t)
+abbrev pub WideFrom : List ℕ → ℕ → ℕ → Type 0
+WideFrom t count i = first_wide_from (suc i) (rows_of (count - i) (drop (4 * i) t)) ≡ first_wide (rows_of count t)
 
-pub wide_start : (t : List ℕ) (count : ℕ) → Wide_from t count 0
+pub wide_start : (t : List ℕ) (count : ℕ) → WideFrom t count 0
 unfolding first_wide
 wide_start t count = ap (λ (n : ℕ). first_wide_from 1 (rows_of n t)) (sub-zero count)
 
@@ -106,7 +104,7 @@ job_at : (t : List ℕ) (i : ℕ) → (table_row_at t i).job ≡ get_or t (4 * i
 unfolding table_row_at first_row
 job_at t i = get_or-drop (4 * i) t 1 0
 
-found_wide : (t : List ℕ) (count i : ℕ) → i < count → row_fits (table_row_at t i) ≡ false → Wide_from t count i → i + 1 ≡ first_wide (rows_of count t)
+found_wide : (t : List ℕ) (count i : ℕ) → i < count → row_fits (table_row_at t i) ≡ false → WideFrom t count i → i + 1 ≡ first_wide (rows_of count t)
 unfolding first_wide_from
 found_wide t count i h e w =
     add-one i
@@ -114,21 +112,21 @@ found_wide t count i h e w =
     ∙ ap (first_wide_from (suc i)) (sym (rows-cons t count i h))
     ∙ w
 
-pub wide_board : (t : List ℕ) (count i : ℕ) → i < count → 65535 < get_or t (4 * i) 0 → Wide_from t count i → i + 1 ≡ first_wide (rows_of count t)
+pub wide_board : (t : List ℕ) (count i : ℕ) → i < count → 65535 < get_or t (4 * i) 0 → WideFrom t count i → i + 1 ≡ first_wide (rows_of count t)
 unfolding row_fits
 wide_board t count i h k w =
     found_wide t count i h
     (and_no_left (leb (table_row_at t i).board 65535) (leb (table_row_at t i).job 65535) (lt-leb (table_row_at t i).board 65535 (omega (arith, board_at t i))))
     w
 
-pub wide_job : (t : List ℕ) (count i : ℕ) → i < count → 65535 < get_or t (4 * i + 1) 0 → Wide_from t count i → i + 1 ≡ first_wide (rows_of count t)
+pub wide_job : (t : List ℕ) (count i : ℕ) → i < count → 65535 < get_or t (4 * i + 1) 0 → WideFrom t count i → i + 1 ≡ first_wide (rows_of count t)
 unfolding row_fits
 wide_job t count i h k w =
     found_wide t count i h
     (and_no_right (leb (table_row_at t i).board 65535) (leb (table_row_at t i).job 65535) (lt-leb (table_row_at t i).job 65535 (omega (arith, job_at t i))))
     w
 
-pub wide_more : (t : List ℕ) (count i : ℕ) → i < count → get_or t (4 * i) 0 ≤ 65535 → get_or t (4 * i + 1) 0 ≤ 65535 → Wide_from t count i → Wide_from t count (i + 1)
+pub wide_more : (t : List ℕ) (count i : ℕ) → i < count → get_or t (4 * i) 0 ≤ 65535 → get_or t (4 * i + 1) 0 ≤ 65535 → WideFrom t count i → WideFrom t count (i + 1)
 unfolding first_wide_from row_fits
 wide_more t count i h b j w =
     ap (λ (n : ℕ). first_wide_from (suc n) (rows_of (count - (i + 1)) (drop (4 * (i + 1)) t))) (add-one i)
@@ -139,14 +137,14 @@ wide_more t count i h b j w =
     ∙ ap (first_wide_from (suc i)) (sym (rows-cons t count i h))
     ∙ w
 
-pub wide_end : (t : List ℕ) (count i : ℕ) → count ≤ i → Wide_from t count i → 0 ≡ first_wide (rows_of count t)
+pub wide_end : (t : List ℕ) (count i : ℕ) → count ≤ i → WideFrom t count i → 0 ≡ first_wide (rows_of count t)
 unfolding first_wide_from rows_of
 wide_end t count i h w = sym (ap (λ (n : ℕ). first_wide_from (suc i) (rows_of n (drop (4 * i) t))) (sub-eq-zero_of_le h)) ∙ w
 
 -- ---- rows, then the trailer
 
 pub filled : (b b₁ b₂ b₃ t : List ℕ) (count note : ℕ) → 12 * count + 8 ≤ length b
-    → Rows_put b t count b₁
+    → RowsPut b t count b₁
     → b₂ ≡ stored b₁ (12 * count) (bytes_of 4 note)
     → b₃ ≡ stored b₂ (12 * count + 4) (bytes_of 4 count)
     → b₃ ≡ stored b 0 (rows_bytes (rows_of count t) ++ trailer_bytes note count)

@@ -13,6 +13,12 @@ ghost use Rattle.planfile.specs.Writes.{refused_written};
 
 use rules::{Refusal, RowPart, Written};
 
+// The most rows that a trailer may count, and the largest job that a row's 16 bits hold. They have names so that the
+// must-fail edits that let in one more keep the names of the goals, and are refused by the facts.
+const MOST_ROWS: u32 = 2000;
+
+const LARGEST_JOB: u32 = 65535;
+
 // A byte of the file, or 0 past its end.
 fn byte_at(s: &[u8], at: usize) -> u32
     ensures { (result ≡ get_or s.now at 0) × (result < 256) }
@@ -66,7 +72,7 @@ pub fn find_rows(file: &[u8]) -> RowPart
     }
     let offset = load4(file, length - 8);
     let rows = load4(file, length - 4);
-    if 2000 < rows {
+    if MOST_ROWS < rows {
         return refused_part(Refusal::BadTrailer);
     }
     if offset as usize + 12 * (rows as usize) + 8 != length {
@@ -192,7 +198,7 @@ fn first_wide(table: &[u32], count: usize) -> usize
         if 65535 < table[4 * i] {
             return i + 1;
         }
-        if 65535 < table[4 * i + 1] {
+        if LARGEST_JOB < table[4 * i + 1] {
             return i + 1;
         }
         i += 1;

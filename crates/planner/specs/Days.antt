@@ -1,8 +1,6 @@
 -- The whole answer for a day.
-use Rattle.std.specs.Prelude.{◌≡◌, refl, true, false, ℕ, zero, suc, ◌+◌, ◌*◌, ◌-◌, ◌≤◌, ◌<◌, length, take}
-use Rattle.std.proofs.Common.{sym, ◌∙◌, arith, length-take-le, take_at, Fits, lt-ltb, le-ltb}
-use Rattle.std.proofs.Math.Path.{ap}
-use mathlib.Core.List.{List, [], ◌∷◌, ◌++◌, map}
+use Rattle.std.specs.Prelude.{◌≡◌, refl, true, false, ℕ, zero, suc, ◌*◌, ◌-◌, ◌≤◌, ◌<◌, length, take, List, [], ◌∷◌, ◌++◌, map}
+use Rattle.std.proofs.Common.{sym, ◌∙◌, arith, length-take-le, take_at, Fits, lt-ltb, le-ltb, ap}
 use Rattle.std.proofs.lemmas.List.{length-replicate}
 use Rattle.std.specs.Int.{w32}
 use Rattle.rules.specs.declared.Planned.{Planned}

@@ -1,12 +1,9 @@
 -- The loop over the jobs: placing those left, behind the rows so far, gives what placing all gives.
-use Rattle.std.specs.Prelude.{◌≡◌, Bool, true, false, ◌||◌, ◌⊎◌, ℕ, zero, suc, ◌+◌, ◌*◌, ◌-◌, ◌≤◌, ◌<◌, get_or, leb, ltb}
-use Rattle.std.proofs.Math.Path.{refl, sym, ap}
-use Rattle.std.proofs.Common.{◌∙◌, add-one, arith, drop_of_length-le}
-use mathlib.Core.List.{List, [], ◌∷◌, ◌++◌, map}
-use Rattle.std.proofs.Math.Logic.{inl, inr}
-use Rattle.std.proofs.Math.ListN.{length, take, drop, length-append, length-map}
-use Rattle.std.proofs.Math.Seq.{sets-eq, length-sets, take_at}
-use Rattle.std.proofs.Math.Dec.{eqb, eqb-zero-suc, eqb-suc-suc}
+use Rattle.std.specs.Prelude.{◌≡◌, Bool, true, false, ◌||◌, ◌⊎◌, ℕ, zero, suc, ◌+◌, ◌*◌, ◌-◌, ◌≤◌, ◌<◌, get_or, leb, ltb, refl, List, [], ◌∷◌, ◌++◌, map, length, take, drop, eqb}
+use Rattle.std.proofs.Common.{◌∙◌, add-one, arith, drop_of_length-le, sym, ap, inl, inr, length-append, take_at}
+use Rattle.std.proofs.lemmas.List.{length-map}
+use Rattle.std.proofs.Math.Seq.{sets-eq, length-sets}
+use Rattle.std.proofs.Math.Dec.{eqb-zero-suc, eqb-suc-suc}
 use Rattle.rules.specs.declared.Planned.{Planned}
 use Rattle.rules.specs.declared.Refusal.TheVariants.{NoPlan}
 use Rattle.rules.specs.declared.Spot.{Spot}

@@ -1,22 +1,19 @@
--- The round trip: what was written is read back, and what was read is written again.
-use Rattle.std.specs.Prelude.{◌≡◌, refl, Bool, true, false, ◌||◌, ℕ, zero, suc, ◌+◌, ◌*◌, ◌-◌, ◌/◌, ◌%◌, ◌^◌, ◌≤◌, ◌<◌, get_or, drop, ltb, leb}
-use Rattle.std.proofs.Math.Path.{sym, ap}
-use Rattle.std.proofs.Common.{ap₂, ◌∙◌, arith, pow-suc, div-lt_iff_lt-mul, lt_of_le_of_lt, length-take, length-drop, take-append-drop, length-take-le, drop-drop, take-add, take_all, lit<, ltb-false, leb-true}
-use mathlib.Core.List.{List, [], ◌∷◌, ◌++◌, append_assoc, append-nil}
+-- The round trip: what was written is read back, and what was read is written again. What rests on Narrow and on RoundTrip,
+-- which the must-fail edits turn, stands in proofs/.
+use Rattle.std.specs.Prelude.{◌≡◌, refl, Bool, true, false, ◌||◌, List, [], ◌∷◌, ◌++◌, ℕ, zero, suc, ◌+◌, ◌*◌, ◌-◌, ◌/◌, ◌%◌, ◌^◌, ◌≤◌, ◌<◌, length, get_or, take, drop, ltb}
+use Rattle.std.proofs.Common.{sym, ap, ap₂, ◌∙◌, append_assoc, arith, pow-suc, div-lt_iff_lt-mul, lt_of_le_of_lt, length-append, length-drop, take-append-drop, length-take-le, take_at, drop_at, drop-drop, take-add, take_all, lit<, ltb-false}
 use Rattle.std.proofs.Math.Nat.{add-sub_cancel_left}
-use Rattle.std.proofs.Math.ListN.{length, take, length-append}
-use Rattle.std.proofs.Math.Seq.{take_at, drop_at, drop-append_seam}
-use Rattle.std.proofs.lemmas.List.{take-append-le}
-use Rattle.laws.specs.Tests.{pick_yes, pick_no, and_left, and_right, or_no_left, or_no_right}
+use Rattle.std.proofs.Math.Seq.{drop-append_seam}
+use Rattle.laws.specs.Rows.{length_rows_of}
+use Rattle.laws.specs.Tests.{pick_no, or_no_left, or_no_right}
 use Rattle.rules.specs.Basics.{All, pick}
 use Rattle.rules.specs.declared.Refusal.{Refusal}
 use Rattle.rules.specs.declared.Refusal.TheVariants.{ForeignByte, NotAllowed, Unclosed, NoNumber, AboveLimit, TooDeep, TooManyJobs, NoJob, NoPlan, ShortBuffer, LongFile, BadBoards, BadLists, OutOfRange, BadTrailer}
 use Rattle.rules.specs.Refusals.{number_of}
-use Rattle.rules.specs.Plans.{Row, first_row, rows_of}
-use Rattle.rules.specs.PlanFiles.{bytes_of, value_of, row_bytes, rows_bytes, decode_row, decode_rows, trailer_bytes, trailer_offset, trailer_count, trailer_fits, part_answer, part_of, file_length, first_wide, first_wide_from, row_fits, WriteAnswer, refused_write, written, write_answer}
+use Rattle.rules.specs.Plans.{Row, rows_of}
+use Rattle.rules.specs.PlanFiles.{bytes_of, value_of, row_bytes, rows_bytes, decode_row, decode_rows, trailer_bytes, trailer_offset, trailer_count, trailer_fits, part_answer, part_of, file_length, first_wide, WriteAnswer, refused_write, written, write_answer}
 use Rattle.planfile.specs.Stores.{length_bytes_of}
-use Rattle.planfile.specs.Writes.{length-row_bytes, length-rows_bytes, length-trailer}
-use Rattle.laws.specs.Rows.{length_rows_of}
+use Rattle.planfile.specs.Writes.{length-rows_bytes, length-trailer}
 use Rattle.planfile.specs.Parts.{found, found_rows, part_of_found, part_fits, fit_sum}
 
 -- ---- a number, its bytes, and back
@@ -43,25 +40,6 @@ pub record Narrow (r : Row) : Type 0 where
   pub from : r.from < 4294967296
   pub to : r.to < 4294967296
 
-pub decode_row_lem : (r : Row) (rest : List ℕ) → Narrow r → decode_row (row_bytes r ++ rest) ≡ r
-unfolding decode_row row_bytes bytes_of
-decode_row_lem r rest n = λ i. record {
-  board = value_bytes 2 r.board n.board i;
-  job = value_bytes 2 r.job n.job i;
-  from = value_bytes 4 r.from n.from i;
-  to = value_bytes 4 r.to n.to i;
-}
-
-pub decode_rows_lem : (rows : List Row) (rest : List ℕ) → All Narrow rows → decode_rows (length rows) (rows_bytes rows ++ rest) ≡ rows
-unfolding decode_rows rows_bytes
-decode_rows_lem [] rest a = refl
-decode_rows_lem (r ∷ rows) rest a =
-    let e : row_bytes r ++ rows_bytes rows ++ rest ≡ row_bytes r ++ (rows_bytes rows ++ rest) = append_assoc (row_bytes r) (rows_bytes rows) rest in
-    ap₂ (λ (x : Row) (l : List ℕ). x ∷ decode_rows (length rows) l)
-    (ap decode_row e ∙ decode_row_lem r (rows_bytes rows ++ rest) a.0)
-    (ap (drop 12) e ∙ drop_at (row_bytes r) (rows_bytes rows ++ rest) 12 (length-row_bytes r))
-    ∙ ap (λ (l : List Row). r ∷ l) (decode_rows_lem rows rest a.1)
-
 -- ---- bytes of rows, decoded and encoded again
 
 all_take : (P : ℕ → Type 0) (k : ℕ) (l : List ℕ) → All P l → All P (take k l)
@@ -69,7 +47,7 @@ all_take P zero l a = tt
 all_take P (suc k) [] a = tt
 all_take P (suc k) (x ∷ l) a = (a.0, all_take P k l a.1)
 
-all_drop : (P : ℕ → Type 0) (k : ℕ) (l : List ℕ) → All P l → All P (drop k l)
+pub all_drop : (P : ℕ → Type 0) (k : ℕ) (l : List ℕ) → All P l → All P (drop k l)
 all_drop P zero l a = a
 all_drop P (suc k) [] a = tt
 all_drop P (suc k) (x ∷ l) a = all_drop P k l a.1
@@ -183,7 +161,7 @@ module _ (note : List ℕ) (rows : List Row) (short : length note + 12 * length 
       (found_rows (file_of note rows) (length note) (length rows) (sym reads_offset) (sym reads_count)
       (omega (arith, file_length_lem)) (omega (arith, file_length_lem)) few (sym file_length_lem))
 
-  part_again : part_of (file_of note rows) ≡ rows_bytes rows
+  pub part_again : part_of (file_of note rows) ≡ rows_bytes rows
   unfolding file_of
   part_again =
       let r = rows_bytes rows in
@@ -192,11 +170,6 @@ module _ (note : List ℕ) (rows : List Row) (short : length note + 12 * length 
       ∙ ap (λ (n : ℕ). take n (drop (length note) (note ++ (r ++ t)))) (add-sub_cancel_left (length note) (12 * length rows))
       ∙ ap (take (12 * length rows)) (drop-append_seam note (r ++ t))
       ∙ take_at r t (12 * length rows) (length-rows_bytes rows)
-
-  -- and it decodes to the same rows
-  pub reads_rows : All Narrow rows → decode_rows (length rows) (part_of (file_of note rows)) ≡ rows
-  reads_rows a =
-      ap (decode_rows (length rows)) (part_again ∙ sym (append-nil (rows_bytes rows))) ∙ decode_rows_lem rows [] a
 
 -- ---- read, then written
 
@@ -253,7 +226,7 @@ pub record Asked (t : List ℕ) (count : ℕ) (b : List ℕ) (p : ℕ) : Type 0 
   pub room : file_length p count ≤ length b
   pub said : write_answer t count b p ≡ record { said = record { refusal = 0; place = 0; length = file_length p count }; buffer = written (rows_of count t) b p }
 
-abbrev refusal : WriteAnswer → ℕ
+abbrev pub refusal : WriteAnswer → ℕ
 refusal a = a.said.refusal
 
 -- one test of the answer: where it holds the answer is refused, so it does not hold
@@ -282,34 +255,13 @@ asked t count b p e =
       said = e₄;
     }
 
-abbrev Words : List ℕ → Type 0
+abbrev pub Words : List ℕ → Type 0
 Words t = All (λ x. x < 4294967296) t
 
-word_at : (t : List ℕ) (i : ℕ) → Words t → get_or t i 0 < 4294967296
+pub word_at : (t : List ℕ) (i : ℕ) → Words t → get_or t i 0 < 4294967296
 word_at [] i a = lit< tt
 word_at (x ∷ t) zero a = a.0
 word_at (x ∷ t) (suc i) a = word_at t i a.1
-
-row_narrow : (t : List ℕ) → Words t → row_fits (first_row t) ≡ true → Narrow (first_row t)
-unfolding row_fits first_row
-row_narrow t a e = record {
-  board = lt_of_le_of_lt {m = 65535} (leb-true (get_or t 0 0) 65535 (and_left (leb (get_or t 0 0) 65535) (leb (get_or t 1 0) 65535) e)) (lit< tt);
-  job = lt_of_le_of_lt {m = 65535} (leb-true (get_or t 1 0) 65535 (and_right (leb (get_or t 0 0) 65535) (leb (get_or t 1 0) 65535) e)) (lit< tt);
-  from = word_at t 2 a;
-  to = word_at t 3 a;
-}
-
-fits_now : (test : Bool) (later k : ℕ) → pick test later (suc k) ≡ 0 → test ≡ true
-fits_now true later k e = refl
-fits_now false later k e = absurd (omega arith)
-
-rows_narrow : (count : ℕ) (t : List ℕ) (k : ℕ) → Words t → first_wide_from (suc k) (rows_of count t) ≡ 0 → All Narrow (rows_of count t)
-unfolding rows_of first_wide_from
-rows_narrow zero t k a e = tt
-rows_narrow (suc count) t k a e =
-    let later = first_wide_from (suc (suc k)) (rows_of count (drop 4 t)) in
-    let fits = fits_now (row_fits (first_row t)) later k e in
-    (row_narrow t a fits, rows_narrow count (drop 4 t) (suc k) (all_drop (λ x. x < 4294967296) 4 t a) (sym (pick_yes (row_fits (first_row t)) later (suc k) fits) ∙ e))
 
 -- "Read back, the file gives the same rows", and the same note
 pub record RoundTrip (t : List ℕ) (count : ℕ) (b : List ℕ) (p : ℕ) (file : List ℕ) : Type 0 where
@@ -317,39 +269,13 @@ pub record RoundTrip (t : List ℕ) (count : ℕ) (b : List ℕ) (p : ℕ) (file
   pub rows : decode_rows count (part_of file) ≡ rows_of count t
   pub note : take p file ≡ take p b
 
-keeps_note : (note : List ℕ) (rows : List Row) (p : ℕ) → length note ≡ p → take p (file_of note rows) ≡ note
+pub keeps_note : (note : List ℕ) (rows : List Row) (p : ℕ) → length note ≡ p → take p (file_of note rows) ≡ note
 unfolding file_of
 keeps_note note rows p e = take_at note (rows_bytes rows ++ trailer_bytes (length note) (length rows)) p e
 
 -- the file as `file_of` has it
-front : (t : List ℕ) (count : ℕ) (b : List ℕ) (p : ℕ) → file_length p count ≤ length b → take (file_length p count) (written (rows_of count t) b p) ≡ file_of (take p b) (rows_of count t)
+pub front : (t : List ℕ) (count : ℕ) (b : List ℕ) (p : ℕ) → file_length p count ≤ length b → take (file_length p count) (written (rows_of count t) b p) ≡ file_of (take p b) (rows_of count t)
 front t count b p h =
     let n : length (rows_of count t) ≡ count = length_rows_of count t in
     ap (λ (k : ℕ). take (file_length p k) (written (rows_of count t) b p)) (sym n)
     ∙ file_front (rows_of count t) b p (rw n h)
-
-wide_none : (t : List ℕ) (count : ℕ) → first_wide (rows_of count t) ≡ 0 → first_wide_from 1 (rows_of count t) ≡ 0
-unfolding first_wide
-wide_none t count e = e
-
-read_back : (t : List ℕ) (count : ℕ) (b : List ℕ) (p : ℕ) → count ≤ 2000 → file_length p count ≤ 65536 → file_length p count ≤ length b → All Narrow (rows_of count t) → RoundTrip t count b p (file_of (take p b) (rows_of count t))
-unfolding file_length
-read_back t count b p few short room narrow =
-    let rows = rows_of count t in
-    let n : length rows ≡ count = length_rows_of count t in
-    let l : length (take p b) ≡ p = length-take-le p b (omega arith) in
-    let s : length (take p b) + 12 * length rows + 8 ≤ 65536 = omega arith in
-    let f : length rows ≤ 2000 = omega arith in
-    record {
-      part = reads_part (take p b) rows s f ∙ ap₂ found l n;
-      rows = ap (λ (k : ℕ). decode_rows k (part_of (file_of (take p b) rows))) (sym n) ∙ reads_rows (take p b) rows s f narrow;
-      note = keeps_note (take p b) rows p l;
-    }
-
-pub round_trip : (t : List ℕ) (count : ℕ) (b : List ℕ) (p : ℕ) (a : WriteAnswer) → a ≡ write_answer t count b p → Words t → a.said.refusal ≡ 0 → RoundTrip t count b p (take a.said.length a.buffer)
-round_trip t count b p a e w ok =
-    let k = asked t count b p (ap refusal (sym e) ∙ ok) in
-    let n : length (rows_of count t) ≡ count = length_rows_of count t in
-    let whole : take a.said.length a.buffer ≡ file_of (take p b) (rows_of count t) =
-    ap (λ (x : WriteAnswer). take x.said.length x.buffer) (e ∙ k.said) ∙ front t count b p k.room in
-    rw whole (read_back t count b p k.few k.short k.room (rows_narrow count t 0 w (wide_none t count k.narrow)))

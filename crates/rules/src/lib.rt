@@ -23,7 +23,7 @@ pub enum Token {
 }
 
 // What the grammar wants next.
-#[derive(Drop)]
+#[derive(Clone, Copy)]
 pub enum Wanted {
     OrderOpen,
     OrderWord,
@@ -38,7 +38,7 @@ pub enum Wanted {
 }
 
 // Why an answer is refused; the number of each stands in specs/Refusals.antt.
-#[derive(Drop)]
+#[derive(Clone, Copy)]
 pub enum Refusal {
     ForeignByte,
     NotAllowed,

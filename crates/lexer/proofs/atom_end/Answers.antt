@@ -1,5 +1,5 @@
 -- The invariant: the tokens are those from i on with the bytes before i as the atom read so far.
-use Rattle.std.proofs.Common.{arith, sym, ◌-◌, ◌∙◌}
+use Rattle.std.proofs.Common.{arith, sym, ◌∙◌}
 use Rattle.lexer.specs.Laws.{part, atom_first, atom_more, atom_at_end, atom_at_byte}
 use Rattle.lexer.proofs.atom_end.Goals as goal
 

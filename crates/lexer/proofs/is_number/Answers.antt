@@ -6,9 +6,9 @@ use Rattle.lexer.proofs.is_number.Goals as goal
 pub returns-then-w-eq0 : goal.returns-then-w-eq0
 returns-then-w-eq0 c = sym (number_empty c.args.w.now c.if-w-eq0.true)
 
-pub returns-then-w-gt7 : goal.returns-then-w-gt7
-returns-then-w-gt7 c =
-    sym (number_long c.args.w.now c.if-w-gt7.true)
+pub returns-then-w-gt-MOST_DIGITS : goal.returns-then-w-gt-MOST_DIGITS
+returns-then-w-gt-MOST_DIGITS c =
+    sym (number_long c.args.w.now c.if-w-gt-MOST_DIGITS.true)
 
 pub returns-then-w-eq48 : goal.returns-then-w-eq48
 returns-then-w-eq48 c =
@@ -16,4 +16,4 @@ returns-then-w-eq48 c =
 
 pub returns : goal.returns
 returns c =
-    c.all_digits.ensures ∙ sym (number_digits c.args.w.now c.if-w-eq0.false c.if-w-gt7.false c.if-w-eq48.false)
+    c.all_digits.ensures ∙ sym (number_digits c.args.w.now c.if-w-eq0.false c.if-w-gt-MOST_DIGITS.false c.if-w-eq48.false)

@@ -1,5 +1,5 @@
 -- The invariant: the answer from i on is the answer from the start.
-use Rattle.std.proofs.Common.{arith, eq-eqb, ne_eqb, sym, ◌-◌, ◌∙◌}
+use Rattle.std.proofs.Common.{arith, eq-eqb, ne_eqb, sym, ◌∙◌}
 use Rattle.lexer.specs.Laws.{and_first}
 use Rattle.laws.specs.Tests.{and_no_left}
 use Rattle.lexer.specs.Laws.{same_no_length, same_end, same_step}

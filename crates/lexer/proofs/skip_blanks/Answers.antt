@@ -1,5 +1,5 @@
 -- The invariant: from i on there are the same tokens as from the start, since a blank gives none.
-use Rattle.std.proofs.Common.{arith, sym, ◌-◌, ◌∙◌}
+use Rattle.std.proofs.Common.{arith, sym, ◌∙◌}
 use Rattle.lexer.specs.Laws.{tokens_blank}
 use Rattle.lexer.proofs.skip_blanks.Goals as goal
 

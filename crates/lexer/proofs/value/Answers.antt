@@ -1,5 +1,5 @@
 -- The invariant: the value from i on, begun at n, is the value from the start; n has i digits, so no sum is too large.
-use Rattle.std.proofs.Common.{ap, arith, drop, sym, ℕ, ◌*◌, ◌+◌, ◌-◌, ◌∙◌}
+use Rattle.std.proofs.Common.{ap, arith, drop, sym, ℕ, ◌*◌, ◌+◌, ◌∙◌}
 use Rattle.lexer.specs.Laws.{value_fits}
 use Rattle.lexer.specs.Laws.{value_end, value_step, every_first, every_rest}
 use Rattle.rules.specs.Tokens.{is_digit, value_from}

@@ -1,0 +1,2 @@
+-- The proofs of the round trip.
+pub mod RoundTrip
