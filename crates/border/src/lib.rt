@@ -26,12 +26,7 @@ pub fn tuffbasket_read_order(file: &[u8], work: &mut [u32], due: &mut [u32]) -> 
 }
 
 // Plans a day on equal boards into a lent table: demands 2 and 3 are the clauses plan, none, few and busy.
-pub fn tuffbasket_plan(
-    boards: u32,
-    work: &[u32],
-    due: &[u32],
-    table: &mut [u32],
-) -> Planned
+pub fn tuffbasket_plan(boards: u32, work: &[u32], due: &[u32], table: &mut [u32]) -> Planned
     ensures said { result ≡ (plan_answer boards work.now due.now table.old).said }
     ensures later { table.new ≡ (plan_answer boards work.now due.now table.old).table }
     ensures plan { result.refusal ≡ 0 → Plan boards (jobs work.now due.now) (rows_of result.rows table.new) }
@@ -72,12 +67,7 @@ pub fn tuffbasket_file_row(file: &[u8], i: usize) -> TableRow
 }
 
 // Writes a plan file behind a note of so many bytes.
-pub fn tuffbasket_write_plan(
-    table: &[u32],
-    count: usize,
-    buffer: &mut [u8],
-    note: usize,
-) -> Written
+pub fn tuffbasket_write_plan(table: &[u32], count: usize, buffer: &mut [u8], note: usize) -> Written
     ensures said { result ≡ (write_answer table.now count buffer.old note).said }
     ensures later { buffer.new ≡ (write_answer table.now count buffer.old note).buffer }
 {

@@ -1,7 +1,7 @@
 -- The listing in a lent buffer, and the laws that join the calls.
-use Rattle.std.specs.Prelude.{◌≡◌, Bool, ◌||◌, ◌⊎◌, ℕ, ◌+◌, ◌*◌, ◌-◌, ◌≤◌, ◌<◌, take, drop, ltb, eqb}
+use Rattle.std.specs.Prelude.{◌≡◌, Bool, ◌||◌, ℕ, ◌+◌, ◌*◌, ◌-◌, ◌≤◌, ◌<◌, take, drop, ltb, eqb}
 use Rattle.std.proofs.Math.Path.{refl, ap}
-use Rattle.std.proofs.Common.{sym, ap₂, subst, ◌∙◌, inl, inr, arith, length-append, length-drop, lt-ltb, le-ltb, eq-eqb, ne_eqb}
+use Rattle.std.proofs.Common.{sym, ap₂, subst, ◌∙◌, arith, length-append, length-drop, lt-ltb, le-ltb, eq-eqb, ne_eqb}
 use Rattle.std.proofs.Math.Bool.{true, false}
 use mathlib.Core.List.{List, [], ◌∷◌, ◌++◌}
 use Rattle.std.proofs.Math.ListN.{length}
@@ -12,12 +12,12 @@ use Rattle.rules.specs.declared.Planned.{Planned}
 use Rattle.rules.specs.declared.Refusal.{Refusal}
 use Rattle.rules.specs.declared.Refusal.TheVariants.{NoPlan, ShortBuffer, LongFile, BadBoards, BadLists, OutOfRange}
 use Rattle.rules.specs.Refusals.{number_of}
-use Rattle.rules.specs.Plans.{Row, Job, jobs, jobs_from, rows_of, numbers_of, preemptions}
+use Rattle.rules.specs.Plans.{Row, jobs, rows_of, numbers_of, preemptions}
 use Rattle.rules.specs.Orders.{ReadAnswer, read_answer, refused_read, after_reading, order_of, Outcome, refused, accepted}
 use Rattle.rules.specs.Planning.{PlanAnswer, plan_answer, refused_plan, after_placing, placing, Placing, placed, unplaced, bad_boards, bad_lists, first_out}
-use Rattle.rules.specs.Listings.{listing, order_lines, plan_lines, refused_line, fields, row_lines}
+use Rattle.rules.specs.Listings.{listing, order_lines, plan_lines, refused_line}
 use Rattle.laws.specs.Stores.{stored}
-use Rattle.laws.specs.Tests.{pick_yes, pick_no, decided, or_no}
+use Rattle.laws.specs.Tests.{pick_yes, pick_no, or_no}
 use Rattle.laws.specs.Rows.{length_rows_of}
 use Rattle.theory.specs.DueOrder.{length-jobs}
 use Rattle.theory.proofs.Answers.{rows_of_numbers_of, length-numbers_of}

@@ -1,5 +1,5 @@
 -- The answer of the jobs from `i` on is the whole answer: each turn passes a good job, or stops at a bad one.
-use Rattle.std.proofs.Common.{arith, sym, ◌-◌, ◌∙◌}
+use Rattle.std.proofs.Common.{arith, sym, ◌∙◌}
 use Rattle.dayrules.specs.FirstOut.{rest_start, rest_works_end, rest_dues_end, rest_good, rest_bad}
 use Rattle.dayrules.proofs.first_out.Goals as goal
 

@@ -11,9 +11,9 @@ returns-then-lines-lt90000 c =
 pub returns-then-refusal-ne0 : goal.returns-then-refusal-ne0
 returns-then-refusal-ne0 c =
     let w = listed_refused c.args.file.now c.list_room-work.result c.list_room-due.result c.args.lines.now
-        c.put_refusal.new.b c.read_order-order.result c.put_refusal.result (sym c.list_room-work.ensures)
-        (sym c.list_room-due.ensures) c.if-lines-lt90000.false c.read_order-order.ensures.said
-        c.if-refusal-ne0.true c.put_refusal.ensures in
+    c.put_refusal.new.b c.read_order-order.result c.put_refusal.result (sym c.list_room-work.ensures)
+    (sym c.list_room-due.ensures) c.if-lines-lt90000.false c.read_order-order.ensures.said
+    c.if-refusal-ne0.true c.put_refusal.ensures in
     record {
       said = w.0;
       later = w.1;
@@ -27,10 +27,15 @@ slice_bounds-work-end c =
 
 pub slice_bounds-due-end : goal.slice_bounds-due-end
 slice_bounds-due-end c =
-    omega (arith,
-    jobs_said c.args.file.now c.list_room-work.result c.list_room-due.result c.read_order-order.result
-    c.read_order-order.new.work c.read_order-order.ensures.said c.read_order-order.ensures.works,
-    c.read_order-order.auto.work, c.read_order-order.auto.due, c.list_room-work.ensures, c.list_room-due.ensures)
+    omega (
+      arith,
+      jobs_said c.args.file.now c.list_room-work.result c.list_room-due.result c.read_order-order.result
+          c.read_order-order.new.work c.read_order-order.ensures.said c.read_order-order.ensures.works,
+      c.read_order-order.auto.work,
+      c.read_order-order.auto.due,
+      c.list_room-work.ensures,
+      c.list_room-due.ensures,
+    )
 
 pub slice_bounds-list_day-end : goal.slice_bounds-list_day-end
 slice_bounds-list_day-end c =
@@ -40,18 +45,23 @@ slice_bounds-list_day-end c =
 
 pub slice_bounds-list_day-end-2 : goal.slice_bounds-list_day-end-2
 slice_bounds-list_day-end-2 c =
-    sym (length-take-le c.read_order-order.result.jobs c.read_order-order.new.due (omega (arith,
-    jobs_said c.args.file.now c.list_room-work.result c.list_room-due.result c.read_order-order.result
-    c.read_order-order.new.work c.read_order-order.ensures.said c.read_order-order.ensures.works,
-    c.read_order-order.auto.work, c.read_order-order.auto.due, c.list_room-work.ensures, c.list_room-due.ensures)))
+    sym (length-take-le c.read_order-order.result.jobs c.read_order-order.new.due (omega (
+      arith,
+      jobs_said c.args.file.now c.list_room-work.result c.list_room-due.result c.read_order-order.result
+          c.read_order-order.new.work c.read_order-order.ensures.said c.read_order-order.ensures.works,
+      c.read_order-order.auto.work,
+      c.read_order-order.auto.due,
+      c.list_room-work.ensures,
+      c.list_room-due.ensures,
+    )))
 
 pub returns : goal.returns
 returns c =
     let w = listed_read c.args.file.now c.list_room-work.result c.list_room-due.result c.args.lines.now
-        c.list_day.new.lines c.read_order-order.result c.read_order-order.new.work c.read_order-order.new.due
-        c.list_day.result (sym c.list_room-work.ensures) (sym c.list_room-due.ensures) c.if-lines-lt90000.false
-        c.read_order-order.ensures.said c.read_order-order.ensures.works c.read_order-order.ensures.dues
-        c.if-refusal-ne0.false c.list_day.ensures in
+    c.list_day.new.lines c.read_order-order.result c.read_order-order.new.work c.read_order-order.new.due
+    c.list_day.result (sym c.list_room-work.ensures) (sym c.list_room-due.ensures) c.if-lines-lt90000.false
+    c.read_order-order.ensures.said c.read_order-order.ensures.works c.read_order-order.ensures.dues
+    c.if-refusal-ne0.false c.list_day.ensures in
     record {
       said = w.0;
       later = w.1;

@@ -11,10 +11,14 @@ returns-then-refusal-ne0 c =
 
 pub put_plan-requires : goal.put_plan-requires
 put_plan-requires c =
-    omega (arith,
-    rows_said c.args.boards c.args.work.now c.args.due.now c.table_room-table.result c.plan-planned.result
-    c.plan-planned.new.table c.plan-planned.ensures.said c.plan-planned.ensures.later,
-    c.plan-planned.auto.table, c.table_room-table.ensures, c.requires)
+    omega (
+      arith,
+      rows_said c.args.boards c.args.work.now c.args.due.now c.table_room-table.result c.plan-planned.result
+          c.plan-planned.new.table c.plan-planned.ensures.said c.plan-planned.ensures.later,
+      c.plan-planned.auto.table,
+      c.table_room-table.ensures,
+      c.requires,
+    )
 
 pub returns : goal.returns
 returns c =
