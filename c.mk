@@ -9,9 +9,16 @@ SANITIZED := $(STRICT) -O1 -g -fsanitize=address,undefined -fno-sanitize-recover
 SECOND := target/c/libsecond.a
 RUST_NEEDS := -lpthread -ldl -lm
 
-target/staticlib/libborder.a: crates.txt $(shell find crates -name '*.rt' -o -name '*.antt')
-	rt staticlib border
-	@touch $@
+# What is built of Rattle. A crate makes its archive or program in its own out/, and from here on the copy in target/ is used.
+CRATES := crates.txt $(shell find crates -name out -prune -o '(' -name '*.rt' -o -name '*.antt' ')' -print)
+
+target/staticlib/libborder.a target/staticlib/libpair.a: target/staticlib/lib%.a: $(CRATES)
+	tools/prove $*_c
+	install -D -m 644 crates/$*_c/out/lib$*_c.a $@
+
+target/bin/planlist: $(CRATES)
+	tools/prove planlist
+	install -D -m 755 crates/planlist/out/planlist $@
 
 target/c/libplain.a: bench/plain.c bench/plain.h include/tuffbasket.h | target/c
 	$(CC) $(CFLAGS) -DSTAND_IN -c $< -o target/c/plain-stand-in.o
@@ -42,10 +49,6 @@ $(OUT)/bench: bench/bench.c bench/plain.c bench/plain.h include/tuffbasket.h sec
 	$(CC) $(CFLAGS) bench/bench.c bench/plain.c $(LIB) $(SECOND) $(RUST_NEEDS) -o $@
 
 # The comparisons on lists and files; the pair's archive is linked here alone, and never ships.
-target/staticlib/libpair.a: crates.txt $(shell find crates -name '*.rt' -o -name '*.antt')
-	rt staticlib pair
-	@touch $@
-
 target/c/compare: $(wildcard second/compare/*.rs second/src/*.rs) $(LIB) target/staticlib/libpair.a | target/c
 	rustc -O --edition 2021 -D warnings second/compare/main.rs \
 	    -L target/staticlib -l static=border -l static=pair -o $@

@@ -1,130 +1,253 @@
 #!/usr/bin/env python3
 """The calls and the locals of the source: source.py [-mir FILE] [-repository DIR] CRATE...
 
-Reads what `rt mir` prints of the named crates and of every crate below them in crates.txt, and refuses them unless
+Reads the compiler's own form (MIR) of the named crates and of every crate below them in crates.txt, and refuses them unless
   - no function reaches itself, directly or through others (a self-call in last place is a loop in the archive, so only the
     source can show it);
-  - every call names its target, and that target is read as well.
-Then it adds up the locals along the deepest chain from each exported function, as they stand in the source: what code that
-no optimiser has touched would keep. With -mir a file takes the place of `rt mir`.
+  - every call names its target, and that target is read as well, or is the kit's. A call through a bound may lead to each
+    method that any of these functions hands over for a bound.
+A library's MIR stands in its rlib, from which the compiler links it. A static library or a program has no rlib: its own
+functions are read from the text that `rt check --generated` writes of them.
+Then it adds up the locals along the deepest chain from a function on, as they stand in the source: what code that no optimiser
+has touched would keep. The kit's functions are not read; those that a chain's function reaches are named.
+With -mir a file, in one form or the other, takes the place of the crates.
 """
 import argparse
-import os
+import collections
+import json
+import pathlib
 import re
 import subprocess
 import sys
+import tempfile
+
 
 class Bad(Exception):
     """What the source is refused for."""
 
 
-def parse(text):
-    """The printed form as nested lists. Lists nest deeply, so a stack of our own does it."""
-    stack = [[]]
-    for token in re.findall(r'"(?:[^"\\]|\\.)*"|[()]|[^\s()]+', text):
-        if token == "(":
-            stack.append([])
-        elif token == ")":
-            done = stack.pop()
-            stack[-1].append(done)
-        else:
-            stack[-1].append(token)
-    if len(stack) != 1:
-        raise Bad("brackets of the printed form do not match")
-    return stack[0]
+# Stands among the calls for a method of whatever a function got for a bound, called by itself or by whom it passes it to.
+BOUND = "(bound)"
 
 
-def walk(node):
-    """Every list inside, by a stack of our own."""
-    todo = [node]
-    while todo:
-        here = todo.pop()
-        if isinstance(here, list):
-            yield here
-            todo.extend(reversed(here))
+class Function:
+    """What is asked of a function. Types are in the words of the rlibs."""
 
+    def __init__(self, name, locals_, shapes):
+        self.name, self.locals, self.shapes = name, locals_, shapes
+        self.calls = set()
+        self.handed = collections.defaultdict(set)  # by callee, the methods of the impls that it gets for its bounds
 
-def elements(chain):
-    """A list printed as (cons a (cons b nil))."""
-    while isinstance(chain, list) and len(chain) == 3 and chain[0].endswith("cons"):
-        yield chain[1]
-        chain = chain[2]
-
-
-def head(node):
-    return node[0] if isinstance(node, list) and node else node
+    def bytes(self):
+        """Each local on a place of its own, aligned to 8 bytes."""
+        return sum(rounded(measure(kind, self.shapes)[0], 8) for kind in self.locals)
 
 
 def rounded(size, alignment):
     return -(-size // alignment) * alignment
 
 
-def laid_out(types, named):
+def laid_out(sizes):
     """Size and alignment of fields side by side."""
     size, widest = 0, 1
-    for each in types:
-        bytes_, alignment = measure(each, named)
+    for bytes_, alignment in sizes:
         size = rounded(size, alignment) + bytes_
         widest = max(widest, alignment)
     return rounded(size, widest), widest
 
 
-def measure(kind, named):
-    """Size and alignment of a type."""
-    name = head(kind)
-    if name == "tyInt":
-        return int(kind[1]) // 8, int(kind[1]) // 8
-    if name in ("tyBool", "tyUnit"):
-        return (1, 1) if name == "tyBool" else (0, 1)
-    if name in ("tyPtr", "tyRef", "tyRawPtr"):
+def measure(kind, shapes, given=()):
+    """Size and alignment of a type, or a number that stands among types. `given` is what the type's parameters are."""
+    form, content = (kind, None) if isinstance(kind, str) else next(iter(kind.items()))
+    if form == "Int":
+        return content // 8, content // 8
+    if form in ("Bool", "Unit"):
+        return (1, 1) if form == "Bool" else (0, 1)
+    if form in ("Ptr", "Ref"):
         return 8, 8
-    if name == "tyStruct":
-        return laid_out(elements(kind[2]), named)
-    if name == "tyArray":
-        size, alignment = measure(kind[1], named)
-        return size * int(kind[2][1]), alignment
-    if name == "tyNamed":
-        shape = named[kind[1][1]]
-        if head(shape) == "fields":
-            return laid_out(elements(shape[1]), named)
-        cases = [laid_out([["tyInt", "8"], *elements(case)], named) for case in elements(shape[1])]
-        widest = max(alignment for _, alignment in cases)
-        return rounded(max(size for size, _ in cases), widest), widest
+    if form in ("Lit", "Const"):
+        return content
+    if form == "Param" and content < len(given):
+        return given[content]
+    if form == "Struct":
+        return laid_out([measure(each, shapes, given) for each in content[1]])
+    if form == "Array":
+        size, alignment = measure(content[0], shapes, given)
+        return size * measure(content[1], shapes, given), alignment
+    if form == "Named":
+        inner = [measure(each, shapes, given) for each in content[1]]
+        shape = shapes[content[0]["name"]]
+        if "Fields" in shape:
+            return laid_out([measure(each, shapes, inner) for each in shape["Fields"]])
+        cases = [laid_out([(1, 1), *(measure(each, shapes, inner) for each in case)]) for case in shape["Variants"]]
+        widest = max((alignment for _, alignment in cases), default=1)
+        return rounded(max((size for size, _ in cases), default=0), widest), widest
     raise Bad(f"no size is known for {kind}")
 
 
-class Function:
-    def __init__(self, name, item, named):
-        self.name, self.calls, self.item, self.named = name, set(), item, named
-        direct = 0
-        for node in walk(item):
-            if head(node) == "call":
-                if head(node[1]) != "direct" or head(node[1][1]) != "fnRef":
-                    raise Bad(f"{name}: a call without a name")
-                self.calls.add(node[1][1][1].strip('"'))
-                direct += 1
-        if sum(1 for node in walk(item) if head(node) == "fnRef") != direct:
+def forms(tree):
+    """Every form inside, and what it holds: the rlibs write {"Form": content}."""
+    todo = [tree]
+    while todo:
+        here = todo.pop()
+        if isinstance(here, dict):
+            yield from here.items()
+            todo.extend(here.values())
+        elif isinstance(here, list):
+            todo.extend(here)
+
+
+def linked(name, mir):
+    """A function as its library's rlib has it."""
+    function = Function(name, [each["ty"] for each in mir["locals"]], {each["name"]: each["shape"] for each in mir["types"]})
+    methods = {each["name"]: each["methods"] for each in mir["generics"]["impls"]}
+    called = mentioned = 0
+    for form, content in forms(mir["body"]):
+        if form == "Call" and ("Fn" in content[0] or "Method" in content[0]):
+            called += 1
+            callee = content[0]["Fn"][0] if "Fn" in content[0] else BOUND
+            function.calls.add(callee)
+            for inner, impl in forms(content[0]):
+                if inner == "Impl":
+                    function.handed[callee].update(methods[impl[0]])
+        elif form in ("Call", "CallV", "Foreign"):
+            raise Bad(f"{name}: a call without a name")
+        elif form in ("Fn", "Method"):
+            mentioned += 1
+        elif form == "Given":
+            function.calls.add(BOUND)
+    if mentioned != called:
+        raise Bad(f"{name}: a function is used as a value")
+    return function
+
+
+def term(text):
+    """An antt term as nested lists: (a b c) is [a, b, c], and (a, b) is [",", a, b]."""
+    stack = [[[]]]
+    for token in re.findall(r'"(?:[^"\\]|\\.)*"|[(),]|[^\s(),"]+', text):
+        if token == "(":
+            stack.append([[]])
+        elif token == ",":
+            stack[-1].append([])
+        elif token == ")":
+            parts = [part[0] if len(part) == 1 else part for part in stack.pop() if part]
+            stack[-1][-1].append(parts[0] if len(parts) == 1 else [",", *parts])
+        else:
+            stack[-1][-1].append(token)
+    if len(stack) != 1:
+        raise Bad("brackets of the written form do not match")
+    return stack[0][0] if len(stack[0][0]) != 1 else stack[0][0][0]
+
+
+def walk(node):
+    """Every list inside."""
+    todo = [node]
+    while todo:
+        here = todo.pop()
+        if isinstance(here, list):
+            yield here
+            todo.extend(here)
+
+
+def elements(chain):
+    """A list written as (cons a (cons b nil))."""
+    while isinstance(chain, list):
+        yield chain[1]
+        chain = chain[2]
+
+
+def spelled(codes):
+    return "".join(chr(int(code)) for code in elements(codes))
+
+
+def kind_of(node):
+    """A type of the written form in the words of the rlibs."""
+    form, content = (node, []) if isinstance(node, str) else (node[0], node[1:])
+    form = form.removeprefix("Syntax.ty_")
+    if form in ("bool", "unit", "ptr"):
+        return form.capitalize()
+    if form == "int":
+        return {"Int": int(content[0].removeprefix("Syntax.w"))}
+    if form == "ref":
+        return {"Ref": None}
+    if form in ("param", "const"):
+        return {form.capitalize(): int(content[0])}
+    if form in ("array", "array_p"):
+        return {"Array": [kind_of(content[0]), {"Lit" if form == "array" else "Param": int(content[1])}]}
+    if form == "struct":
+        return {"Struct": ["", kinds_of(content[1])]}
+    if form == "named":
+        return {"Named": [{"name": spelled(content[0][1])}, kinds_of(content[1])]}
+    raise Bad(f"no size is known for {node}")
+
+
+def kinds_of(chain):
+    return [kind_of(each) for each in elements(chain)]
+
+
+def shape_of(node):
+    if node[0] == "Table.fields":
+        return {"Fields": kinds_of(node[1])}
+    return {"Variants": [kinds_of(case) for case in elements(node[1])]}
+
+
+def written(name, text):
+    """A function as `rt check --generated` writes it: definitions, each a paragraph."""
+    terms, targets = {}, {}
+    for paragraph in text.strip().split("\n\n"):
+        if found := re.match(r"abbrev pub (\S+) : [^\n]*\n\1 =(.*)", paragraph, re.S):
+            terms[found.group(1)] = [] if found.group(2).lstrip().startswith("record") else term(found.group(2))
+        elif paragraph.startswith("-- "):
+            for crate, path, other in re.findall(r"^use Rattle\.(\S+?)\.proofs\.(\S+)\.Symbol(?: as (\S+))?$", paragraph, re.M):
+                targets[f"{other or 'Symbol'}.name"] = "::".join([crate, *path.split(".")])
+        else:
+            raise Bad(f"{name}: a paragraph that is no definition: {paragraph[:80]}")
+    if "locals" not in terms:
+        raise Bad(f"{name}: no locals are written")
+    locals_ = terms.get("by_name-locals", terms["locals"])
+    shapes = {spelled(each[1]): shape_of(each[3]) for each in elements(terms.get("table", "List.[]"))}
+    function = Function(name, [kind_of(each[1]) for each in elements(locals_)], shapes)
+    called = mentioned = 0
+    for node in walk(list(terms.values())):
+        mentioned += sum(isinstance(word, str) and word.endswith(".name") for word in node)
+        if node[:1] == ["Syntax.call"]:
+            target = node[1] if isinstance(node[1], str) else node[1][0]
+            if target not in targets and target != "Syntax.method":
+                raise Bad(f"{name}: a call without a name")
+            called += target in targets
+            callee = targets.get(target, BOUND)
+            function.calls.add(callee)
+            for inner in walk(node[1]):
+                if inner[:1] == ["Syntax.impl"]:
+                    function.handed[callee].update(method.strip('"') for method in elements(inner[1]))
+        elif node[:1] == ["Syntax.call_v"]:
+            raise Bad(f"{name}: a call without a name")
+        elif node[:1] in (["Syntax.fn_addr"], ["Syntax.vtable"]):
             raise Bad(f"{name}: a function is used as a value")
+        elif node[:1] == ["Syntax.given"]:
+            function.calls.add(BOUND)
+    if mentioned != called:
+        raise Bad(f"{name}: a function is used as a value")
+    return function
 
-    def locals(self):
-        """Each local on a place of its own, aligned to 8 bytes."""
-        found = next(node for node in self.item if head(head(list(elements(node))) if head(node) == "lcons" else "") == "local")
-        return sum(rounded(measure(local[1], self.named)[0], 8) for local in elements(found))
+
+Crate = collections.namedtuple("Crate", "folder libraries is_library")
 
 
-def functions_of(text, functions):
-    program = next((node for node in parse(text) if isinstance(node, list)), None)
-    if program is None:
-        raise Bad("nothing was printed")
-    named = {node[1]: node[2] for node in walk(program) if head(node) == "pair" and head(node[2]) in ("fields", "variants")}
-    for node in walk(program):
-        if head(node) == "fn-def":
-            name = node[1].strip('"')
-            functions[name] = Function(name, node[2], named)
+def crates_of(repository):
+    crates = {}
+    for line in (pathlib.Path(repository) / "crates.txt").read_text(encoding="utf-8").splitlines():
+        head, colon, libraries = line.split("#")[0].partition(":")
+        if colon:
+            name, *words = head.split()
+            folder = pathlib.Path(repository) / "crates" / name
+            is_library = "staticlib" not in words and not (folder / "src" / "main.rt").exists()
+            crates[name] = Crate(folder, libraries.split(), is_library)
+    return crates
 
 
 def below(crates, wanted):
-    """The named crates and all that they depend on; the kit's libraries come with the printed form of their users."""
+    """The named crates and all of the repository that they depend on."""
     missing = [name for name in wanted if name not in crates]
     if missing:
         raise Bad(f"crates.txt has no {missing[0]}")
@@ -133,47 +256,113 @@ def below(crates, wanted):
         name = todo.pop()
         if name in crates and name not in reached:
             reached.add(name)
-            todo.extend(crates[name])
+            todo.extend(crates[name].libraries)
     return [name for name in crates if name in reached]
 
 
-def printed(crate, repository):
-    done = subprocess.run(["rt", "mir", crate], cwd=repository, stdout=subprocess.PIPE, stderr=subprocess.PIPE, text=True)
-    lines = [line for line in done.stdout.splitlines() if line.startswith("program ")]
-    if done.returncode != 0 or len(lines) != 1:
-        raise Bad(f"rt mir {crate} printed no program\n{done.stderr}")
-    return lines[0].removeprefix("program ")
+def rt(crate, *words):
+    done = subprocess.run(["rt", *words], cwd=crate.folder, stdout=subprocess.PIPE, stderr=subprocess.STDOUT, text=True)
+    if done.returncode != 0:
+        raise Bad(f"rt {words[0]} of {crate.folder.name} ended with {done.returncode}\n{done.stdout[-2000:]}")
 
 
-def deepest(name, functions, known, chain=()):
-    """Bytes of locals and names of the deepest chain from a function on."""
-    if name in chain:
-        raise Bad("reaches itself: " + " -> ".join([*chain[chain.index(name):], name]))
-    if name not in functions:
-        raise Bad(f"{chain[-1]} calls {name}, which was not read")
-    if name not in known:
-        under = [deepest(called, functions, known, (*chain, name)) for called in sorted(functions[name].calls)]
-        size, names = max(under, default=(0, ()))
-        known[name] = size + functions[name].locals(), (name, *names)
-    return known[name]
+def functions_written(name, crate):
+    """Those of a static library or a program. Functions that call each other are written side by side in a folder +NAME."""
+    with tempfile.TemporaryDirectory() as folder:
+        rt(crate, "check", "--generated", folder)
+        top = pathlib.Path(folder) / f"Rattle-{name}-proofs"
+        for cycle in top.glob("**/Code/+*.antt"):
+            raise Bad(f"reaches itself: {name}, {cycle.parent.parent.relative_to(top)}")
+        found = sorted(top.glob("**/Code/Mir.antt"))
+        if not found:
+            raise Bad(f"nothing was written of {name}")
+        for file in found:
+            path = file.parent.parent.relative_to(top).parts
+            yield written("::".join([name, *path]), file.read_text(encoding="utf-8"))
 
 
 def read_crates(repository, wanted):
-    functions = {}
-    with open(os.path.join(repository, "crates.txt"), encoding="utf-8") as text:
-        lines = [line.split(":") for line in text if ":" in line and not line.startswith("#")]
-    for crate in below({name.strip(): words.split() for name, words in lines}, wanted):
-        functions_of(printed(crate, repository), functions)
-    return functions
+    crates, functions = crates_of(repository), []
+    reached = below(crates, wanted)
+    for name in wanted:
+        # Both commands first bring the rlibs of the libraries below up to date.
+        if crates[name].is_library:
+            rt(crates[name], "lib")
+        else:
+            functions += functions_written(name, crates[name])
+    for name in reached:
+        if crates[name].is_library:
+            mir = crates[name].folder / "out" / "rlib" / f"{name}.rlib" / "toolchain" / "mir.json"
+            functions += [linked(*each) for each in json.loads(mir.read_text(encoding="utf-8"))]
+    return Source(functions, crates)
 
 
-def judge(functions):
-    """For each function its sum and chain [(function, locals)], and a line about the whole; Bad if the source is refused."""
-    known, rows = {}, {}
-    for name in sorted(functions):
-        size, chain = deepest(name, functions, known)
-        rows[name] = size, [(f, functions[f].locals()) for f in chain]
-    return rows, f"source: {len(functions)} functions, none reaches itself; every call names its target"
+Chain = collections.namedtuple("Chain", "size parts")
+
+
+class Source:
+    """Functions, of which none reaches itself and every call names its target; Bad otherwise."""
+
+    def __init__(self, functions, crates):
+        self.functions, self.crates = {each.name: each for each in functions}, crates
+        self.known = {}
+        self.through_bounds = set()  # what a bound of a function that is read may stand for
+        for each in functions:
+            for callee, methods in each.handed.items():
+                self.through_bounds |= methods if callee == BOUND or self.is_ours(callee) else set()
+        done = set()
+        for name in sorted(self.functions):
+            self.follow(name, (), done)
+
+    def targets(self, name):
+        """What a function may call: functions that are read, and the kit's."""
+        function = self.functions[name]
+        called = set(function.calls)
+        for callee, methods in function.handed.items():
+            called |= set() if self.is_ours(callee) else methods  # the kit may call them back
+        if BOUND in called:
+            called = called - {BOUND} | self.through_bounds
+        ours = set(filter(self.is_ours, called))
+        return ours, called - ours
+
+    def is_ours(self, name):
+        return name.split("::")[0] in self.crates
+
+    def follow(self, name, chain, done):
+        if name in chain:
+            raise Bad("reaches itself: " + " -> ".join([*chain[chain.index(name):], name]))
+        if name not in self.functions:
+            raise Bad(f"{chain[-1]} calls {name}, which was not read")
+        if name not in done:
+            for called in sorted(self.targets(name)[0]):
+                self.follow(called, (*chain, name), done)
+            done.add(name)
+
+    def deepest(self, name):
+        """Bytes of locals of the deepest chain from a function on, and its functions with their own."""
+        if name not in self.known:
+            under = max(map(self.deepest, self.targets(name)[0]), default=Chain(0, ()))
+            own = self.functions[name].bytes()
+            self.known[name] = Chain(own + under.size, ((name, own), *under.parts))
+        return self.known[name]
+
+    def kit(self, name):
+        """The kit's functions that a function reaches through those that are read."""
+        ours, kits = self.targets(name)
+        return kits.union(*map(self.kit, ours))
+
+    def about(self):
+        return f"source: {len(self.functions)} functions, none reaches itself; every call names its target"
+
+
+def show(source, name):
+    try:
+        size, parts = source.deepest(name)
+        print(f"{name} {size}: " + " -> ".join(f"{each} {bytes_}" for each, bytes_ in parts))
+    except Bad as bad:
+        print(f"{name}: {bad}")  # a function whose size its callers choose
+    for each in sorted(source.kit(name)):
+        print(f"    may reach the kit's {each}, which is not read")
 
 
 def main():
@@ -184,17 +373,17 @@ def main():
     asked = asked.parse_args()
     try:
         if asked.mir:
-            functions = {}
-            with open(asked.mir, encoding="utf-8") as text:
-                functions_of(text.read().removeprefix("program "), functions)
+            text = pathlib.Path(asked.mir).read_text(encoding="utf-8")
+            functions = [linked(*each) for each in json.loads(text)] if text.startswith("[") else [written("a::f", text)]
+            source = Source(functions, {each.name.split("::")[0] for each in functions})
         else:
-            functions = read_crates(asked.repository, asked.crates)
-        rows, about = judge(functions)
+            source = read_crates(asked.repository, asked.crates)
+        for name in sorted(source.functions):
+            if name.split("::")[0] in asked.crates:
+                show(source, name)
+        print(source.about())
     except Bad as bad:
         sys.exit(f"source: {bad}")
-    for name, (size, chain) in rows.items():
-        print(f"{name} {size}: " + " -> ".join(f"{f} {bytes_}" for f, bytes_ in chain))
-    print(about)
 
 
 if __name__ == "__main__":
