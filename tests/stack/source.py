@@ -4,12 +4,12 @@
 Reads the compiler's own form (MIR) of the named crates and of every crate below them in crates.txt, and refuses them unless
   - no function reaches itself, directly or through others (a self-call in last place is a loop in the archive, so only the
     source can show it);
-  - every call names its target, and that target is read as well, or is the kit's. A call through a bound may lead to each
-    method that any of these functions hands over for a bound.
+  - every call names its target, and that target is read as well: ours, and the kit's that ours reach, down to functions of C,
+    which are named. A call through a bound may lead to each method that a caller hands over for a bound.
 A library's MIR stands in its rlib, from which the compiler links it. A static library or a program has no rlib: its own
 functions are read from the text that `rt check --generated` writes of them.
 Then it adds up the locals along the deepest chain from a function on, as they stand in the source: what code that no optimiser
-has touched would keep. The kit's functions are not read; those that a chain's function reaches are named.
+has touched would keep. A function of the kit whose size its callers choose counts nothing, and is named.
 With -mir a file, in one form or the other, takes the place of the crates.
 """
 import argparse
@@ -278,7 +278,40 @@ def functions_written(name, crate):
             raise Bad(f"nothing was written of {name}")
         for file in found:
             path = file.parent.parent.relative_to(top).parts
-            yield written("::".join([name, *path]), file.read_text(encoding="utf-8"))
+            if path != ("main+run",):  # the kit's own: it calls main, and prints the error that main may end with
+                yield written("::".join([name, *path]), file.read_text(encoding="utf-8"))
+
+
+class Kit:
+    """The kit's functions, each read when it is asked for."""
+
+    # std passes on names of these, so that a name may stand under std and the function under another of them.
+    PARTS = ("core", "std_alloc", "std_collections", "std_heap", "std_io", "std", "io", "os", "libc")
+
+    def __init__(self):
+        page = subprocess.run(["rt", "doc"], stdout=subprocess.PIPE, text=True, check=True).stdout.strip()
+        self.folder, self.mir = pathlib.Path(page).parent / "rlibs", None
+
+    def load(self):
+        self.mir = {}
+        for part in self.PARTS:
+            file = self.folder / f"{part}.rlib" / "toolchain" / "mir.json"
+            self.mir.update(json.loads(file.read_text(encoding="utf-8")))
+
+    def read(self, name):
+        """The function of this name, or of the one name that ends alike; None for a function of C, or where there is none."""
+        if self.mir is None:
+            self.load()
+        parts = name.split("::")
+        for start in range(len(parts) - 1):
+            ending = "::".join(["", *parts[start:]])
+            found = [each for each in self.mir if ("::" + each).endswith(ending)]
+            if len(found) == 1:
+                mir = self.mir[found[0]]
+                return None if any(form == "Foreign" for form, _ in forms(mir["body"])) else linked(name, mir)
+            if found:
+                break
+        return None
 
 
 def read_crates(repository, wanted):
@@ -294,7 +327,7 @@ def read_crates(repository, wanted):
         if crates[name].is_library:
             mir = crates[name].folder / "out" / "rlib" / f"{name}.rlib" / "toolchain" / "mir.json"
             functions += [linked(*each) for each in json.loads(mir.read_text(encoding="utf-8"))]
-    return Source(functions, crates)
+    return Source(functions, crates, Kit())
 
 
 Chain = collections.namedtuple("Chain", "size parts")
@@ -303,27 +336,50 @@ Chain = collections.namedtuple("Chain", "size parts")
 class Source:
     """Functions, of which none reaches itself and every call names its target; Bad otherwise."""
 
-    def __init__(self, functions, crates):
-        self.functions, self.crates = {each.name: each for each in functions}, crates
-        self.known = {}
-        self.through_bounds = set()  # what a bound of a function that is read may stand for
-        for each in functions:
-            for callee, methods in each.handed.items():
-                self.through_bounds |= methods if callee == BOUND or self.is_ours(callee) else set()
+    def __init__(self, functions, crates, kit=None):
+        self.functions, self.crates, self.kits = {each.name: each for each in functions}, crates, kit
+        self.known, self.unsized, self.of_c = {}, set(), set()
+        self.given = collections.defaultdict(set)  # by function, the methods that it may get for its bounds
+        self.spread()
         done = set()
         for name in sorted(self.functions):
             self.follow(name, (), done)
 
+    def spread(self):
+        """Brings in the kit's functions that are reached, and passes on what is handed for a bound, until nothing is new."""
+        changed = True
+        while changed:
+            changed = False
+            for function in list(self.functions.values()):
+                own = self.given[function.name] if BOUND in function.calls else set()
+                for callee in (function.calls - {BOUND}) | own:
+                    handed = own | function.handed.get(BOUND if callee in own else callee, set())
+                    if not handed <= self.given[callee]:
+                        self.given[callee] |= handed
+                        changed = True
+                    changed = self.bring(callee) or changed
+
+    def bring(self, name):
+        """Whether a function of the kit was read now."""
+        if self.kits is None or self.is_ours(name) or name in self.functions or name in self.of_c:
+            return False
+        if found := self.kits.read(name):
+            self.functions[name] = found
+        else:
+            self.of_c.add(name)
+        return found is not None
+
     def targets(self, name):
-        """What a function may call: functions that are read, and the kit's."""
+        """What a function may call: functions that are read, and those of C (or of the kit, where that is not read)."""
         function = self.functions[name]
         called = set(function.calls)
         for callee, methods in function.handed.items():
-            called |= set() if self.is_ours(callee) else methods  # the kit may call them back
+            read = callee == BOUND or callee in self.functions or self.is_ours(callee)
+            called |= set() if read else methods  # what is not read may call them back
         if BOUND in called:
-            called = called - {BOUND} | self.through_bounds
-        ours = set(filter(self.is_ours, called))
-        return ours, called - ours
+            called = called - {BOUND} | self.given[name]
+        read = {each for each in called if each in self.functions or self.is_ours(each)}
+        return read, called - read
 
     def is_ours(self, name):
         return name.split("::")[0] in self.crates
@@ -338,21 +394,41 @@ class Source:
                 self.follow(called, (*chain, name), done)
             done.add(name)
 
+    def bytes(self, name):
+        try:
+            return self.functions[name].bytes()
+        except Bad:
+            if self.is_ours(name):
+                raise
+            self.unsized.add(name)
+            return 0
+
     def deepest(self, name):
         """Bytes of locals of the deepest chain from a function on, and its functions with their own."""
         if name not in self.known:
             under = max(map(self.deepest, self.targets(name)[0]), default=Chain(0, ()))
-            own = self.functions[name].bytes()
+            own = self.bytes(name)
             self.known[name] = Chain(own + under.size, ((name, own), *under.parts))
         return self.known[name]
 
+    def reached(self, name):
+        """All that a function may call, directly or through others."""
+        found, todo = set(), [name]
+        while todo:
+            here = todo.pop()
+            read, unread = self.targets(here)
+            todo.extend(read - found)
+            found |= read | unread
+        return found
+
     def kit(self, name):
-        """The kit's functions that a function reaches through those that are read."""
-        ours, kits = self.targets(name)
-        return kits.union(*map(self.kit, ours))
+        """The kit's and C's functions that a function may reach."""
+        return {each for each in self.reached(name) if not self.is_ours(each)}
 
     def about(self):
-        return f"source: {len(self.functions)} functions, none reaches itself; every call names its target"
+        ours = sum(self.is_ours(name) for name in self.functions)
+        read = f"source: {ours} functions and {len(self.functions) - ours} of the kit, none reaches itself; every call names its target"
+        return read + (f"; of C: {', '.join(sorted(self.of_c))}" if self.of_c else "")
 
 
 def show(source, name):
@@ -361,8 +437,8 @@ def show(source, name):
         print(f"{name} {size}: " + " -> ".join(f"{each} {bytes_}" for each, bytes_ in parts))
     except Bad as bad:
         print(f"{name}: {bad}")  # a function whose size its callers choose
-    for each in sorted(source.kit(name)):
-        print(f"    may reach the kit's {each}, which is not read")
+    for each in sorted(source.kit(name) - source.functions.keys()):
+        print(f"    may reach {each}, which is not read")
 
 
 def main():

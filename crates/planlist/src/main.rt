@@ -4,7 +4,7 @@
 ghost use Rattle.std.specs.Prelude.{◌≡◌, ◌≤◌, length};
 
 use std::io;
-use std::io::{Read, Write};
+use std::io::{Print, Read, Stdin};
 
 // One byte more than an order may have: such a file is refused as too long, however long it is.
 fn file_room() -> [u8; 65537]
@@ -20,7 +20,7 @@ fn line_room() -> [u8; 90000]
 }
 
 // Reads until the buffer is full, the input ends or a read fails. The answer is how many bytes came.
-fn read_full<R: Read>(input: &mut R, buffer: &mut [u8]) -> usize
+fn read_full(input: &mut Stdin, buffer: &mut [u8]) -> usize
     ensures { result ≤ length buffer.new }
 {
     let mut done = 0;
@@ -38,5 +38,5 @@ fn main(rt: HostRuntime) -> io::Result<()> {
     let length = read_full(&mut rt.stdin(), &mut file);
     let mut lines = line_room();
     let end = listing::list(&file[..length], &mut lines);
-    io::writer(&rt).write_all(&lines[..end])
+    rt.stdout().write_all(&lines[..end])
 }
