@@ -1,5 +1,5 @@
 -- Demands 2 and 3 of the planner, over the definitions of crates/rules: each record says what is demanded, a field a sentence.
--- Only statements stand here; Proved and Answers prove each under a like name, for every input.
+-- Only statements stand here; Proved and Answers in proofs/ prove each under a like name, for every input.
 use Rattle.std.specs.Prelude.{◌≡◌, true, false, List, [], ◌∷◌, ◌++◌, map, ◌⊎◌, ℕ, ◌+◌, ◌-◌, ◌*◌, ◌≤◌, min, length, get_or, ltb, eqb}
 use Rattle.rules.specs.Basics.{pick, All, Pairs, some}
 use Rattle.rules.specs.declared.Refusal.TheVariants.{NoPlan}

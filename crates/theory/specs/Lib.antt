@@ -1,5 +1,6 @@
 -- The three demands as theorems about the definitions in crates/rules. Demands says what is proved, and Tried computes with it:
--- a customer reads these two. The rest are the proofs, in the order in which they lean on each other.
+-- a customer reads these two. The rest are the definitions and laws on which the proofs in proofs/ stand, in the order in which
+-- they lean on each other.
 pub mod Demands
 pub mod Tried
 pub mod Lists
