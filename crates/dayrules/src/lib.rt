@@ -4,7 +4,7 @@
 #![tactic(auto)]
 
 ghost use Rattle.std.specs.Prelude.{◌≡◌};
-ghost use Rattle.rules.specs.Basics.{within};
+ghost use Rattle.laws.specs.Found.{found};
 ghost use Rattle.rules.specs.Planning.{bad_boards, bad_lists, job_good, first_out};
 
 // The limits of 01; crates/rules/specs/Basics.antt has them as most_boards, most_jobs and most_minutes.
@@ -14,57 +14,35 @@ const MOST_JOBS: usize = 1000;
 
 const MOST_MINUTES: u32 = 1000000;
 
-// 1 to high
-fn from_one(high: u32, n: u32) -> bool
-    ensures { result ≡ within 1 high n }
-{
-    if 1 <= n { n <= high } else { false }
-}
-
 // 12: "boards not 1 to 64"
 pub fn bad_boards(boards: u32) -> bool
     ensures { result ≡ bad_boards boards }
 {
-    !from_one(MOST_BOARDS, boards)
+    !(1..=MOST_BOARDS).contains(&boards)
 }
 
 // 13: "work and due lists of unequal length, or not 1 to 1,000 long"
 pub fn bad_lists(work: &[u32], due: &[u32]) -> bool
     ensures { result ≡ bad_lists work.now due.now }
 {
-    if work.len() != due.len() {
-        return true;
-    }
-    if work.len() < 1 {
-        return true;
-    }
-    MOST_JOBS < work.len()
+    work.len() != due.len() || !(1..=MOST_JOBS).contains(&work.len())
 }
 
 fn job_good(work: u32, due: u32) -> bool
     ensures { result ≡ job_good work due }
 {
-    if from_one(MOST_MINUTES, work) {
-        from_one(MOST_MINUTES, due)
-    } else {
-        false
-    }
+    let allowed = 1..=MOST_MINUTES;
+    allowed.contains(&work) && allowed.contains(&due)
 }
 
-// 14: the first job whose work or due is "not 1 to 1,000,000", counted from 1, or 0 if there is none.
-pub fn first_out(work: &[u32], due: &[u32]) -> usize
-    ensures { result ≡ first_out work.now due.now }
+// 14: the first job whose work or due is "not 1 to 1,000,000", counted from 1.
+pub fn first_out(work: &[u32], due: &[u32]) -> Option<usize>
+    ensures { result ≡ found (first_out work.now due.now) }
 {
-    let mut i: usize = 0;
-    while i < work.len() {
-        if due.len() <= i {
-            return 0;
-        }
-        if job_good(work[i], due[i]) {
-            i += 1;
-        } else {
-            return i + 1;
+    for (i, (w, d)) in work.iter().zip(due).enumerate() {
+        if !job_good(*w, *d) {
+            return Some(i + 1);
         }
     }
-    0
+    None
 }

@@ -3,7 +3,7 @@ use Rattle.std.specs.Prelude.{◌≡◌, refl, List, ℕ, ◌+◌, ◌*◌, ◌<
 use Rattle.std.proofs.Common.{sym, ap, ◌∙◌, arith, drop_of_length-le, drop-drop}
 use Rattle.rules.specs.Plans.{Row}
 use Rattle.rules.specs.PlanFiles.{value_of, decode_row, part_of}
-use Rattle.planfile.specs.declared.TableRow.{TableRow}
+use Rattle.rules.specs.declared.TableRow.{TableRow}
 use Rattle.planfile.specs.Parts.{part_length}
 
 unfoldable pub table_row : Row → TableRow

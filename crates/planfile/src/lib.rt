@@ -11,7 +11,7 @@ ghost use Rattle.laws.specs.Stores.{stored};
 ghost use Rattle.planfile.specs.Stores.{table_row_at};
 ghost use Rattle.planfile.specs.Writes.{refused_written};
 
-use rules::{Refusal, RowPart, Written};
+use rules::{Refusal, RowPart, TableRow, Written};
 
 // The most rows that a trailer may count, and the largest job that a row's 16 bits hold. They have names so that the
 // must-fail edits that let in one more keep the names of the goals, and are refused by the facts.
@@ -94,16 +94,6 @@ pub fn row_part(file: &[u8]) -> &[u8]
     let from = part.offset as usize;
     let to = from + part.length as usize;
     &file[from..to]
-}
-
-// A row's four numbers.
-#[repr(C)]
-#[derive(Drop)]
-pub struct TableRow {
-    pub board: u32,
-    pub job: u32,
-    pub from: u32,
-    pub to: u32,
 }
 
 // The row decoder: row i, counted from 0, of a row part.
