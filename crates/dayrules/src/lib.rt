@@ -15,6 +15,7 @@ const MOST_JOBS: usize = 1000;
 const MOST_MINUTES: u32 = 1000000;
 
 // 12: "boards not 1 to 64"
+#[tactic(auto, unfolding(rules::specs::Planning::bad_boards, rules::specs::Basics::within))]
 pub fn bad_boards(boards: u32) -> bool
     ensures { result ≡ bad_boards boards }
 {
@@ -22,12 +23,14 @@ pub fn bad_boards(boards: u32) -> bool
 }
 
 // 13: "work and due lists of unequal length, or not 1 to 1,000 long"
+#[tactic(auto, unfolding(rules::specs::Planning::bad_lists, rules::specs::Basics::within))]
 pub fn bad_lists(work: &[u32], due: &[u32]) -> bool
     ensures { result ≡ bad_lists work.now due.now }
 {
     work.len() != due.len() || !(1..=MOST_JOBS).contains(&work.len())
 }
 
+#[tactic(auto, unfolding(rules::specs::Planning::job_good, rules::specs::Basics::within))]
 fn job_good(work: u32, due: u32) -> bool
     ensures { result ≡ job_good work due }
 {

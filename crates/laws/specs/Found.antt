@@ -1,6 +1,6 @@
 -- What a search answers: the definitions say 0 for "none", the code says `None`.
-use Rattle.std.specs.Prelude.{◌≡◌, refl, Option, None, Some, ℕ, zero, suc, ◌<◌}
-use Rattle.std.proofs.Common.{arith}
+use Rattle.std.specs.Prelude.{◌≡◌, refl, Option, None, Some, ℕ, zero, suc, ◌+◌, ◌<◌}
+use Rattle.std.proofs.Common.{arith, add-one}
 
 abbrev pub found : ℕ → Option ℕ
 found zero = None
@@ -17,3 +17,9 @@ found_some (suc n) p q = cc
 pub found_above : {o : Option ℕ} {k : ℕ} (n : ℕ) → o ≡ found n → o ≡ Some k → 0 < n
 found_above zero p q = cc
 found_above (suc n) p q = omega arith
+
+pub some_found : (k : ℕ) {n : ℕ} → k + 1 ≡ n → Some (k + 1) ≡ found n
+some_found k e = rw (← e, add-one k) refl
+
+pub none_found : {n : ℕ} → n ≡ 0 → None ≡ found n
+none_found e = rw e refl
