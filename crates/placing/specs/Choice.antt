@@ -1,14 +1,14 @@
 -- Laws of the choice of boards. Two laws of `scan` carry all: what holds of every spot that is chosen on the way holds of the
 -- one chosen at last; and a test that passes from a chosen room to the room it beats, and from a best room to the rooms that
 -- it keeps out, holds of the last room exactly where it holds of every room.
-use Rattle.std.specs.Prelude.{◌≡◌, refl, Bool, true, false, ◌&&◌, ◌||◌, List, [], ◌∷◌, ◌⊎◌, ℕ, zero, suc, ◌+◌, ◌-◌, ◌≤◌, ◌<◌, ◌^◌, length, get_or, leb, ltb, eqb}
+use Rattle.std.specs.Prelude.{◌≡◌, refl, Bool, true, false, ◌&&◌, ◌||◌, List, [], ◌∷◌, ◌⊎◌, ℕ, suc, ◌+◌, ◌-◌, ◌≤◌, ◌<◌, ◌^◌, length, get_or, leb, ltb, eqb}
 use Rattle.std.proofs.Common.{sym, ◌∙◌, ap, true≢false, inl, inr, arith, get_or-set_same, get_or-set_other, ltb-true, ltb-false, leb-true, eqb-true, lt-ltb, le-leb, eq-eqb}
 use Rattle.std.proofs.lemmas.Bool.{false≢true, eqb-false}
 use Rattle.rules.specs.declared.Spot.{Spot}
 use Rattle.rules.specs.Basics.{All, every}
 use Rattle.rules.specs.Planning.{rooms, scan, none, greatest_up_to, least_above, fill}
 use Rattle.laws.specs.Tests.{pick_yes, pick_no, decided, and_left, and_right, or_left, or_right, or_cases, or_no_left, or_no_right}
-use Rattle.placing.specs.Scans.{length-rooms, less_above}
+use Rattle.placing.specs.Scans.{spot, scan_yes, scan_no, length-rooms, room_at, greater_up_to, less_above}
 
 and_true : (a : Bool) → (a && true) ≡ a
 and_true true = refl
@@ -31,19 +31,6 @@ and_first_no false b e h = refl
 and_second_no : (a b : Bool) → (a && b) ≡ false → a ≡ true → b ≡ false
 and_second_no true b e h = e
 and_second_no false b e h = absurd (false≢true h)
-
-abbrev spot : ℕ → ℕ → Spot
-spot board room = record { board = board; room = room }
-
-scan_yes : (beats : ℕ → ℕ → Bool) (k : ℕ) (best : Spot) (r : ℕ) (rs : List ℕ) → beats r best.room ≡ true →
-    scan beats k best (r ∷ rs) ≡ scan beats (suc k) (spot k r) rs
-unfolding scan
-scan_yes beats k best r rs e = ap (λ (s : Spot). scan beats (suc k) s rs) (pick_yes _ _ _ e)
-
-scan_no : (beats : ℕ → ℕ → Bool) (k : ℕ) (best : Spot) (r : ℕ) (rs : List ℕ) → beats r best.room ≡ false →
-    scan beats k best (r ∷ rs) ≡ scan beats (suc k) best rs
-unfolding scan
-scan_no beats k best r rs e = ap (λ (s : Spot). scan beats (suc k) s rs) (pick_no _ _ _ e)
 
 -- what each chosen spot has, the last one has
 scan_keeps : (beats : ℕ → ℕ → Bool) (I : Spot → Type 0) (k : ℕ) (best : Spot) (rs : List ℕ) → I best →
@@ -76,12 +63,6 @@ scan_all beats P Q win lose k best (r ∷ rs) a =
           ∙ and_adds (P best.room) (P r) (every P rs) (lose r best.room a.0 e)
     ]
 
-room_at : (due : ℕ) (free : List ℕ) (i : ℕ) → i < length free → get_or (rooms due free) i 0 ≡ due - get_or free i 0
-unfolding rooms
-room_at due [] i h = absurd (omega arith)
-room_at due (f ∷ free) zero h = refl
-room_at due (f ∷ free) (suc i) h = room_at due free i (omega arith)
-
 pub rooms_up_to_due : (due : ℕ) (free : List ℕ) → All (λ r. r ≤ due) (rooms due free)
 unfolding rooms
 rooms_up_to_due due [] = tt
@@ -106,20 +87,20 @@ scan_spotted beats due free h =
 pub greatest_spotted : (limit due : ℕ) (free : List ℕ) → 0 < length free →
     Spotted due free (greatest_up_to limit (rooms due free))
 unfolding greatest_up_to
-greatest_spotted limit due free h = scan_spotted (λ room best. ltb best room && leb room limit) due free h
+greatest_spotted limit due free h = scan_spotted (greater_up_to limit) due free h
 
 pub least_spotted : (limit due : ℕ) (free : List ℕ) → 0 < length free → Spotted due free (least_above limit (rooms due free))
 unfolding least_above
-least_spotted limit due free h = scan_spotted (λ room best. ltb limit room && (eqb best 0 || ltb room best)) due free h
+least_spotted limit due free h = scan_spotted (less_above limit) due free h
 
 pub greatest_bound : (limit : ℕ) (rs : List ℕ) → (greatest_up_to limit rs).room ≤ limit
 unfolding greatest_up_to none
-greatest_bound limit rs = scan_keeps (λ room best. ltb best room && leb room limit) (λ s. s.room ≤ limit) 0 none rs
+greatest_bound limit rs = scan_keeps (greater_up_to limit) (λ s. s.room ≤ limit) 0 none rs
     (omega arith) (λ i b board p l e. leb-true _ _ (and_right (ltb b (get_or rs i 0)) (leb (get_or rs i 0) limit) e))
 
 pub least_bound : (limit : ℕ) (rs : List ℕ) → ((least_above limit rs).room ≡ 0) ⊎ (limit < (least_above limit rs).room)
 unfolding least_above none
-least_bound limit rs = scan_keeps (λ room best. ltb limit room && (eqb best 0 || ltb room best))
+least_bound limit rs = scan_keeps (less_above limit)
     (λ s. (s.room ≡ 0) ⊎ (limit < s.room)) 0 none rs (inl refl)
     (λ i b board p l e. inr (ltb-true _ _ (and_left (ltb limit (get_or rs i 0)) (eqb b 0 || ltb (get_or rs i 0) b) e)))
 
@@ -128,7 +109,7 @@ pub greatest_below : (limit t : ℕ) (rs : List ℕ) → All (λ r. r ≤ limit)
     ltb (greatest_up_to limit rs).room t ≡ (ltb 0 t && every (λ r. ltb r t) rs)
 unfolding greatest_up_to none
 greatest_below limit t rs a =
-    scan_all (λ room best. ltb best room && leb room limit) (λ r. ltb r t) (λ r. r ≤ limit)
+    scan_all (greater_up_to limit) (λ r. ltb r t) (λ r. r ≤ limit)
     (λ room best q e p. lt-ltb best t (omega (
       arith,
       ltb-true best room (and_left (ltb best room) (leb room limit) e),
@@ -181,7 +162,7 @@ least_lose t room best e p =
 pub least_fits : (t : ℕ) (rs : List ℕ) → fits_open t (least_above 0 rs).room ≡ every (λ r. eqb r 0 || leb t r) rs
 unfolding least_above none fits_open
 least_fits t rs =
-    scan_all (λ room best. ltb 0 room && (eqb best 0 || ltb room best)) (fits_open t) (λ r. Unit {0})
+    scan_all (less_above 0) (fits_open t) (λ r. Unit {0})
     (λ room best q. least_win t room best) (λ room best q. least_lose t room best) 0 none rs (all_unit rs)
   where
     all_unit : (rs : List ℕ) → All (λ r. Unit {0}) rs
@@ -191,7 +172,7 @@ least_fits t rs =
 -- where no room is above the limit, none is found
 scan_least_none : (limit k : ℕ) (best : Spot) (rs : List ℕ) → (scan (less_above limit) k best rs).room ≡ 0 →
     (best.room ≡ 0) × All (λ r. r ≤ limit) rs
-unfolding scan less_above
+unfolding scan
 scan_least_none limit k best [] e = (e, tt)
 scan_least_none limit k best (r ∷ rs) e =
     elim (decided (less_above limit r best.room)) [
@@ -214,7 +195,7 @@ scan_least_none limit k best (r ∷ rs) e =
         ]
 
 pub least_none : (limit : ℕ) (rs : List ℕ) → (least_above limit rs).room ≡ 0 → All (λ r. r ≤ limit) rs
-unfolding least_above less_above
+unfolding least_above
 least_none limit rs e = (scan_least_none limit 0 none rs e).1
 
 -- a row of at most the room found ends at a number of 32 bits
