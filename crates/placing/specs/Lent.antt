@@ -1,5 +1,5 @@
 -- The rest of a table, lent for the next rows: what it is, and what the table is when it comes back.
-use Rattle.std.specs.Prelude.{◌≡◌, refl, List, [], ◌∷◌, ◌++◌, ℕ, ◌+◌, ◌*◌, ◌-◌, ◌≤◌, length, take, drop}
+use Rattle.std.specs.Prelude.{◌≡◌, refl, List, [], ◌∷◌, ◌++◌, ℕ, ◌+◌, ◌*◌, ◌-◌, length, take, drop}
 use Rattle.std.proofs.Common.{sym, ◌∙◌, ap, arith, length-append, append_assoc, append-nil, take_at, drop_of_length-le}
 use Rattle.std.proofs.lemmas.List.{take_rest, drop-drop, length-drop}
 use Rattle.std.proofs.Math.Seq.{drop-append_seam}
@@ -12,7 +12,7 @@ unfolding numbers_of
 numbers-append [] new = refl
 numbers-append (r ∷ rows) new = ap (λ (l : List ℕ). r.board ∷ r.job ∷ r.from ∷ r.to ∷ l) (numbers-append rows new)
 
-pub length-numbers : (rows : List Row) → length (numbers_of rows) ≡ 4 * length rows
+length-numbers : (rows : List Row) → length (numbers_of rows) ≡ 4 * length rows
 unfolding numbers_of
 length-numbers [] = refl
 length-numbers (r ∷ rows) = omega (arith, length-numbers rows)
@@ -31,14 +31,6 @@ module _ (rows : List Row) (table : List ℕ) where
   rows_rest : drop (4 * length rows) (with_rows rows table) ≡ drop (4 * length rows) table
   rows_rest = ap (λ (n : ℕ). drop n (with_rows rows table)) (sym (length-numbers rows))
       ∙ drop-append_seam (numbers_of rows) (drop (4 * length rows) table)
-
-  pub length-rows : 4 * length rows ≤ length table → length (with_rows rows table) ≡ length table
-  length-rows h = omega (
-    arith,
-    length-append (numbers_of rows) (drop (4 * length rows) table),
-    length-numbers rows,
-    length-drop (4 * length rows) table,
-  )
 
   -- rows at the front of the rest stand behind those at the table's front
   pub rows_behind : (new : List Row) →

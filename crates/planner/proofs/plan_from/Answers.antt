@@ -1,7 +1,5 @@
 -- The records come back as the jobs in due order, as many as there are jobs.
-use Rattle.std.proofs.Common.{◌≡◌, ◌∙◌, sym, ap, List, [], length, drop, arith}
-use Rattle.rules.specs.Planning.{place_all, after_placing}
-use Rattle.rules.specs.Plans.{Job}
+use Rattle.std.proofs.Common.{◌≡◌, ◌∙◌, sym, length, drop, arith}
 use Rattle.planner.specs.Days.{prefix_long, day_jobs}
 use Rattle.planner.proofs.plan_from.Goals as goal
 
@@ -13,9 +11,4 @@ returns c =
     ∙ sym (prefix_long _ _ (omega (arith, c.requires))) in
     let same = day_jobs a.free.now a.work.now a.due.now a.table.now c.requires.day records
     (drop (length a.work.now) a.records.now) ordered_long c.due_order.ensures in
-    record {
-      said = c.plan_records.ensures.said
-          ∙ ap (λ (js : List Job). (after_placing (place_all [] a.free.now js) a.table.now).said) same;
-      later = c.plan_records.ensures.later
-          ∙ ap (λ (js : List Job). (after_placing (place_all [] a.free.now js) a.table.now).table) same;
-    }
+    rw same at c.plan_records.ensures
