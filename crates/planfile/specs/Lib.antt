@@ -1,5 +1,5 @@
 -- Laws of the plan file's bytes.
-pub mod Bytes
+pub mod Chunks
 pub mod Parts
 pub mod Rows
 pub mod Stores
