@@ -79,16 +79,6 @@ unfolding clear
 free_clear on_board of_job r f =
     and_yes (leb (get_or on_board r.board 0) r.from) (leb (get_or of_job r.job 0) r.from) (le-leb (get_or on_board r.board 0) r.from f.board) (le-leb (get_or of_job r.job 0) r.from f.job)
 
--- the ways out of the test of a row
-
-pub board_busy : (on_board of_job : List ℕ) (r : Row) → r.from < get_or on_board r.board 0 → clear on_board of_job r ≡ false
-unfolding clear
-board_busy on_board of_job r h = and_no_left _ _ (lt-leb (get_or on_board r.board 0) r.from h)
-
-pub job_busy : (on_board of_job : List ℕ) (r : Row) → r.from < get_or of_job r.job 0 → clear on_board of_job r ≡ false
-unfolding clear
-job_busy on_board of_job r h = and_no_right (leb (get_or on_board r.board 0) r.from) _ (lt-leb (get_or of_job r.job 0) r.from h)
-
 abbrev pub Ordered : List Row → Type 0
 Ordered rs = Pairs (λ r s. r.from ≤ s.from) rs
 

@@ -1,5 +1,4 @@
 -- Laws of the plan file's bytes.
-pub mod Chunks
 pub mod Parts
 pub mod Rows
 pub mod Stores

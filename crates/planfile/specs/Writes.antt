@@ -15,7 +15,7 @@ use Rattle.rules.specs.PlanFiles.{bytes_of, row_bytes, rows_bytes, row_fits, tra
 use Rattle.laws.specs.Rows.{length_rows_of}
 use Rattle.laws.specs.Found.{found, found_none, found_some, found_above}
 use Rattle.laws.specs.Stores.{stored, behind, stored-stored, stored_none}
-use Rattle.planfile.specs.Chunks.{rows_in, rows_in-end, rows_in-more, rows_in-taken, length-rows_in}
+use Rattle.tablerows.specs.Chunks.{rows_in, rows_in-end, rows_in-more, rows_in-taken, length-rows_in}
 use Rattle.planfile.specs.Stores.{length_bytes_of}
 
 -- what the writer answers for a length, or for a refusal

@@ -8,15 +8,15 @@ ghost use Rattle.laws.specs.Found.{found};
 ghost use Rattle.laws.specs.Meant.{row_meant};
 ghost use Rattle.laws.specs.Stores.{stored};
 ghost use Rattle.rules.specs.PlanFiles.{value_of, bytes_of, row_bytes, rows_bytes, trailer_bytes, part_answer, part_of, row_fits, first_wide, write_answer};
-ghost use Rattle.rules.specs.Plans.{first_row};
 ghost use Rattle.planfile.specs.Parts.{part_said};
 ghost use Rattle.planfile.specs.Rows.{table_row, row_at};
-ghost use Rattle.planfile.specs.Chunks.{rows_in};
+ghost use Rattle.tablerows.specs.Chunks.{rows_in};
 ghost use Rattle.planfile.specs.Writes.{write_said};
 
 use refusals::Fault;
 use rules::{Refusal, RowPart, TableRow, Written};
 use std::ops::Range;
+use tablerows::row_in;
 
 // The most rows that a trailer may count, and the largest job that a row's 16 bits hold. They have names so that the
 // must-fail edits that let in one more keep the names of the goals, and are refused by the facts.
@@ -110,20 +110,6 @@ pub fn file_row(file: &[u8], i: usize) -> TableRow
         };
     }
     decode_row(part, i)
-}
-
-// Four numbers of a table, as a row.
-#[tactic(auto, unfolding(rules::specs::Plans::first_row))]
-fn row_in(numbers: &[u32]) -> TableRow
-    requires { length numbers.now ≡ 4 }
-    ensures { row_meant result ≡ first_row numbers.now }
-{
-    TableRow {
-        board: numbers[0],
-        job: numbers[1],
-        from: numbers[2],
-        to: numbers[3],
-    }
 }
 
 // Stores the lowest N bytes of a number, 4 at the most.

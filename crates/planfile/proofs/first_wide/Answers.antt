@@ -3,7 +3,7 @@ use Rattle.std.proofs.Common.{◌+◌, ℕ, not, option_map, ap, sym, ◌∙◌,
 use Rattle.std.proofs.lemmas.Iterator.Search.{position_from_yields_List}
 use Rattle.rules.specs.Plans.{Row}
 use Rattle.rules.specs.PlanFiles.{row_fits}
-use Rattle.planfile.specs.Chunks.{rows_in, row_chunks}
+use Rattle.tablerows.specs.Chunks.{rows_in, row_chunks}
 use Rattle.planfile.specs.Writes.{wide_found}
 use Rattle.planfile.proofs.first_wide.Goals as goal
 

@@ -3,7 +3,7 @@ use Rattle.std.proofs.Common.{◌≡◌, ℕ, ◌*◌, length, ap, ap₂, sym, �
 use Rattle.laws.specs.Stores.{stored}
 use Rattle.rules.specs.PlanFiles.{row_bytes, rows_bytes}
 use Rattle.rules.specs.Plans.{Row, first_row}
-use Rattle.planfile.specs.Chunks.{rows_in}
+use Rattle.tablerows.specs.Chunks.{rows_in}
 use Rattle.planfile.specs.Writes.{rows_more, rows_end}
 use Rattle.planfile.proofs.put_rows.Goals as goal
 

@@ -2,7 +2,7 @@
 use Rattle.std.proofs.Common.{◌≡◌, ◌+◌, ◌*◌, ◌/◌, ◌≤◌, length}
 use Rattle.laws.specs.Stores.{stored}
 use Rattle.rules.specs.PlanFiles.{rows_bytes}
-use Rattle.planfile.specs.Chunks.{rows_in}
+use Rattle.tablerows.specs.Chunks.{rows_in}
 use Rattle.planfile.proofs.put_rows.Given as goal
 
 abbrev pub invariant-loop-i : goal.invariant-loop-i
