@@ -3,7 +3,7 @@
 // the atom read so far in hand, the same from each byte of the atom. Each byte is looked at a constant number of times.
 #![tactic(auto)]
 
-ghost use Rattle.std.specs.Prelude.{◌≡◌, true, ◌-◌, ◌≤◌, ◌<◌, length, get_or};
+ghost use Rattle.std.specs.Prelude.{◌≡◌, true, ◌≤◌, length};
 ghost use Rattle.rules.specs.Basics.{every, most_digits};
 ghost use Rattle.rules.specs.Tokens.{is_digit, is_letter_or_digit, is_blank, is_number, value_from, kind};
 ghost use Rattle.lexer.specs.Scan.{NextToken, RunEnd};
@@ -66,7 +66,8 @@ fn is_number(w: &[u8]) -> bool
 
 // Seven digits are below ten million, so the value fits.
 fn value(w: &[u8]) -> u32
-    requires { (length w.now ≤ most_digits) × (every is_digit w.now ≡ true) }
+    requires short { length w.now ≤ most_digits }
+    requires digits { every is_digit w.now ≡ true }
     ensures { result ≡ value_from 0 w.now }
 {
     let mut n = 0;

@@ -1,7 +1,8 @@
 -- The tests come in the definition's order, so each return cites the law of its case.
-use Rattle.std.proofs.Common.{ap, sym, ◌∙◌}
+use Rattle.std.proofs.Common.{true, ◌≡◌, ap, sym, ◌∙◌}
 use Rattle.lexer.specs.Laws.{told, kind_order, kind_group, kind_job, kind_rest, number_short, number_all}
 use Rattle.laws.specs.Tests.{pick_yes, pick_no}
+use Rattle.rules.specs.Tokens.{is_number}
 use Rattle.rules.specs.declared.Word.TheVariants.{Number}
 use Rattle.lexer.proofs.kind_of.Goals as goal
 
@@ -21,7 +22,8 @@ returns-then-eq-3 c =
 
 pub value-requires : goal.value-requires
 value-requires c =
-    (number_short c.args.w.now (sym c.is_number.ensures ∙ c.if-is_number.true), number_all c.args.w.now (sym c.is_number.ensures ∙ c.if-is_number.true))
+    let number : is_number c.args.w.now ≡ true = sym c.is_number.ensures ∙ c.if-is_number.true in
+    record { short = number_short c.args.w.now number; digits = number_all c.args.w.now number }
 
 pub returns-then-is_number : goal.returns-then-is_number
 returns-then-is_number c =
