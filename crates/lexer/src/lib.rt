@@ -64,7 +64,7 @@ fn is_number(w: &[u8]) -> bool
     w[0] != b'0' && w.iter().all(|b| is_digit(*b))
 }
 
-// Seven digits are below ten million, so the value fits.
+// Seven digits are below ten million, so the value fits. No `fold`: a total that it carries gets no bound.
 fn value(w: &[u8]) -> u32
     requires short { length w.now ≤ most_digits }
     requires digits { every is_digit w.now ≡ true }
@@ -77,6 +77,7 @@ fn value(w: &[u8]) -> u32
     n
 }
 
+// By `==`, not by patterns: in an arm `b"job"` a proof knows the length and no byte (tried).
 fn kind_of(w: &[u8]) -> Word
     ensures { result ≡ kind w.now }
 {

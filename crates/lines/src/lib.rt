@@ -117,7 +117,8 @@ pub fn put_refusal(b: &mut [u8], refusal: u32, place: u32) -> usize
     page.end
 }
 
-// "First line: `plan`, boards, jobs, rows, preemptions ... Then the rows."
+// "First line: `plan`, boards, jobs, rows, preemptions ... Then the rows." The count of rows stands beside the table: this
+// contract may not change, since crate listing calls it.
 pub fn put_plan(b: &mut [u8], first: [u32; 4], table: &[u32], count: usize) -> usize
     requires { (count ≤ 2000) × (4 * count ≤ length table.now) × (100 + 44 * count ≤ length b.old) }
     ensures { Put b.old 0 (planned first (rows_of count table.now)) b.new result }
