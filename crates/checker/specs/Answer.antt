@@ -1,20 +1,20 @@
 -- The checker's answer: one law for each way out, and what its yes and its no say of plans.
-use Rattle.std.specs.Prelude.{◌≡◌, Bool, true, false, ◌&&◌, ◌||◌, Option, Some, List, [], ◌∷◌, ℕ, zero, suc, ◌*◌, ◌-◌, ◌/◌, ◌≤◌, ◌<◌, length, get_or, take, ltb, eqb}
+use Rattle.std.specs.Prelude.{◌≡◌, Bool, true, false, ◌&&◌, Option, Some, List, [], ◌∷◌, ℕ, zero, suc, ◌*◌, ◌-◌, ◌≤◌, ◌<◌, length, get_or, take, ltb}
 use Rattle.std.proofs.Math.Path.{refl, sym, ap₂}
-use Rattle.std.proofs.Common.{ap, ◌∙◌, length-take-le, true≢false, ltb-false, lt-ltb, le-ltb, eqb-true}
-use Rattle.std.proofs.lemmas.Bool.{false≢true, not-false}
+use Rattle.std.proofs.Common.{ap, ◌∙◌, length-take-le, true≢false, ltb-false, lt-ltb, le-ltb}
+use Rattle.std.proofs.lemmas.Bool.{false≢true}
 use Rattle.std.proofs.Math.Logic.{inl, inr}
 use native.Mathlib.Omega.{arith}
 use Rattle.std.proofs.Math.Decide.{dec_le}
 use Rattle.rules.specs.declared.Refusal.{Refusal}
 use Rattle.rules.specs.declared.Refusal.TheVariants.{BadBoards, BadLists, OutOfRange}
 use Rattle.rules.specs.declared.Checked.{Checked}
-use Rattle.rules.specs.Basics.{pick, every, every_pair, within, most_boards, most_rows, most_jobs, most_minutes}
+use Rattle.rules.specs.Basics.{pick, every, every_pair, within, most_rows, most_minutes}
 use Rattle.rules.specs.Refusals.{number_of}
 use Rattle.rules.specs.Plans.{Job, Row, Plan, jobs_from, jobs, rows_of, row_good, pair_good, is_plan, preemptions}
 use Rattle.rules.specs.Planning.{bad_boards, bad_lists, job_good, first_out_from, first_out}
 use Rattle.rules.specs.Checking.{refused_check, verdict, bad_table, check_answer}
-use Rattle.laws.specs.Tests.{pick_yes, pick_no, decided, and_left, and_right, and_no_left, and_no_right, or_left, or_right, or_no, or_no_left, or_no_right, within_high}
+use Rattle.laws.specs.Tests.{pick_yes, pick_no, decided, and_right, and_no_left, and_no_right, or_left, or_right, or_no, or_no_left, or_no_right, within_high}
 use Rattle.theory.specs.Test.{is_plan_plan, plan_is_plan}
 use Rattle.laws.specs.Found.{found, found_some, found_above}
 use Rattle.laws.specs.Rows.{length_rows_of}
@@ -23,23 +23,6 @@ use Rattle.dayrules.specs.Ranges.{boards_fit, lists_fit}
 use Rattle.tablerows.specs.Chunks.{rows_in, rows_in-taken}
 use Rattle.checker.specs.Alone.{line_good, line_row, every_same}
 use Rattle.checker.specs.Minutes.{exact_minutes, exact_jobs}
-
--- 13 for the table
-
-pub table_long : (table : List ℕ) (count : ℕ) → most_rows < count → bad_table table count ≡ true
-unfolding bad_table
-table_long table count h = or_left (ltb most_rows count) (ltb (length table) (4 * count)) (lt-ltb most_rows count h)
-
-pub table_short : (table : List ℕ) (count : ℕ) → count ≤ most_rows → ltb (length table / 4) count ≡ bad_table table count
-unfolding bad_table
-table_short table count h =
-    quarter (length table) count ∙ ap (λ (b : Bool). b || ltb (length table) (4 * count)) (sym (le-ltb most_rows count h))
-  where
-    quarter : (l n : ℕ) → ltb (l / 4) n ≡ ltb l (4 * n)
-    quarter l n = elim (dec_le (4 * n) l) [
-      | yes q ↦ le-ltb (l / 4) n (omega arith) ∙ sym (le-ltb l (4 * n) q)
-      | no q ↦ lt-ltb (l / 4) n (omega arith) ∙ sym (lt-ltb l (4 * n) (omega arith))
-    ]
 
 -- The ways out, in their order.
 module _ (m : ℕ) (works dues table : List ℕ) (count : ℕ) where

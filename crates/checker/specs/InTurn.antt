@@ -2,10 +2,10 @@
 -- the last end of its job.
 use Rattle.std.specs.Prelude.{◌≡◌, refl, Bool, true, false, ◌&&◌, List, [], ◌∷◌, ℕ, ◌≤◌, ◌<◌, length, get_or, set, leb, eqb}
 use Rattle.std.proofs.Common.{sym, ap, ◌∙◌, inl, inr, arith, length-set, get_or-set_same, get_or-set_other, leb-true, le-leb, eqb-true}
-use Rattle.std.proofs.lemmas.Bool.{false≢true, lt-leb, eqb-false}
+use Rattle.std.proofs.lemmas.Bool.{false≢true, eqb-false}
 use Rattle.rules.specs.Basics.{pick, All, Pairs, every_pair, zeros}
 use Rattle.rules.specs.Plans.{Row, Apart, pair_good}
-use Rattle.laws.specs.Tests.{pick_yes, pick_no, decided, and_yes, and_left, and_right, and_no_left, and_no_right, every_pair_pairs, pairs_every_pair}
+use Rattle.laws.specs.Tests.{pick_yes, pick_no, decided, and_yes, and_left, and_right, every_pair_pairs, pairs_every_pair}
 use Rattle.theory.specs.Test.{PairGood, yes_pair_good, pair_good_yes}
 use Rattle.checker.specs.Minutes.{zero_at}
 

@@ -1,11 +1,15 @@
 -- The minutes of each job, added up row by row, against the works.
-use Rattle.std.specs.Prelude.{◌≡◌, refl, Bool, true, ◌&&◌, List, [], ◌∷◌, ℕ, zero, suc, ◌+◌, ◌*◌, ◌-◌, ◌≤◌, ◌<◌, length, get_or, set, take, eqb, nat_eq}
+use Rattle.std.specs.Prelude.{◌≡◌, refl, Bool, true, ◌&&◌, Some, List, [], ◌∷◌, ℕ, zero, suc, ◌+◌, ◌*◌, ◌-◌, ◌≤◌, ◌<◌, length, get_or, set, eqb, nat_eq}
+use Rattle.std.specs.Borrow.{Bor}
+use Rattle.std.specs.declared.slice.ChunksExact.{ChunksExact}
+use Rattle.std.specs.Slice.Iter.{chunks_exact_rest, chunks_exact_size, chunks_exact_steps}
 use Rattle.std.specs.List.{starts_with}
 use Rattle.std.proofs.Common.{sym, ap, ap₂, ◌∙◌, inl, inr, arith, add-zero, zero-add, eq-eqb, ne_eqb, length-set, get_or-set_same, get_or-set_other, eqb-true}
 use Rattle.std.proofs.lemmas.Bool.{eqb-false}
 use Rattle.rules.specs.Basics.{pick, All, every, zeros, most_minutes}
-use Rattle.rules.specs.Plans.{Row, Job, jobs_from, jobs, minutes_of}
+use Rattle.rules.specs.Plans.{Row, Job, first_row, jobs_from, jobs, minutes_of}
 use Rattle.laws.specs.Tests.{pick_yes, pick_no, decided, every_all}
+use Rattle.tablerows.specs.Chunks.{rows_in, rows_turn}
 use Rattle.checker.specs.Alone.{line_good, Timed, Sound, sound}
 
 pub all_sound : (m : ℕ) (dues : List ℕ) (rows : List Row) → ((i : ℕ) → i < length dues → get_or dues i 0 ≤ most_minutes) → every (line_good m dues) rows ≡ true → All (Sound m (length dues)) rows
@@ -40,6 +44,15 @@ spending_none rows spent z k h = omega (arith, z k)
 pub spending_all : (rows : List Row) (spent : List ℕ) → Spending rows [] spent → Spent rows spent
 unfolding minutes_of
 spending_all rows spent s k h = omega (arith, s k h)
+
+-- the row in hand, of a loop over the chunks of what is left
+pub spending_turn : (rows : List Row) (spent : List ℕ) (n : ℕ) (s t : ChunksExact ℕ) (x : Bor (List ℕ)) (r : Row) → chunks_exact_steps s (Some x) t → chunks_exact_size s ≡ 4 → r ≡ first_row x.now
+    → All (Timed n) (rows_in (chunks_exact_rest s)) → Spending rows (rows_in (chunks_exact_rest s)) spent
+    → Timed n r × All (Timed n) (rows_in (chunks_exact_rest t)) × Spending rows (r ∷ rows_in (chunks_exact_rest t)) spent
+spending_turn rows spent n s t x r h four e timed left =
+    let turn = rows_turn s t x h four ∙ ap (λ (q : Row). q ∷ rows_in (chunks_exact_rest t)) (sym e) in
+    let each = rw turn at timed in
+    (each.0, each.1, rw turn at left)
 
 module _ (rows left : List Row) (r : Row) (spent : List ℕ) (s : Spending rows (r ∷ left) spent) (t : Timed (length spent) r) where
   pub spending_fits : get_or spent (r.job - 1) 0 + (r.to - r.from) ≤ minutes_of r.job rows

@@ -2,9 +2,10 @@
 // are the chunks that `chunks_exact(4)` gives, one by one. Plan files and checker go through their rows by it.
 #![tactic(auto)]
 
-ghost use Rattle.std.specs.Prelude.{◌≡◌, length};
+ghost use Rattle.std.specs.Prelude.{◌≡◌, ◌+◌, ◌*◌, ◌≤◌, length};
 ghost use Rattle.laws.specs.Meant.{row_meant};
 ghost use Rattle.rules.specs.Plans.{first_row};
+ghost use Rattle.tablerows.specs.Places.{row_at};
 
 use rules::TableRow;
 
@@ -20,4 +21,12 @@ pub fn row_in(numbers: &[u32]) -> TableRow
         from: numbers[2],
         to: numbers[3],
     }
+}
+
+// Row i of a table, counted from 0.
+pub fn row_at(table: &[u32], i: usize) -> TableRow
+    requires { 4 * i + 4 ≤ length table.now }
+    ensures { row_meant result ≡ row_at table.now i }
+{
+    row_in(&table[4 * i..4 * i + 4])
 }
