@@ -41,7 +41,7 @@ fn is_blank(b: u8) -> bool
 // The place behind the run of bytes that meet the test, from `at` on; a place beyond the file stays.
 fn run_end<F: Fn(u8) -> bool>(s: &[u8], at: usize, test: F) -> usize
     requires { F.IsAlwaysCallable test }
-    ensures { RunEnd (λ b t. F.post test b t) s.now at result }
+    ensures { RunEnd (F.post test) s.now at result }
 {
     for i in at..s.len() {
         if !test(s[i]) {
