@@ -6,7 +6,7 @@ use Rattle.rules.specs.Plans.{Row, first_row, rows_of}
 use Rattle.rules.specs.Listings.{decimal, fields, row_lines}
 use Rattle.lines.specs.declared.Page.{Page}
 use Rattle.lines.specs.Digits.{IsLead, digits_from, digits_all, power_pos}
-use Rattle.lines.specs.Pages.{Puts, puts_length, nothing_put, at_most, puts_then}
+use Rattle.lines.specs.Pages.{Room, Puts, puts_length, nothing_put, at_most, puts_then}
 
 -- ---- the digits of a number
 
@@ -41,7 +41,7 @@ digits_none p n power l =
       put = at_most _ (omega arith) (nothing_put p);
     }
 
-pub digits_next : {p q r : Page} {n power : ℕ} (x : ℕ) → p.end + 10 ≤ length p.bytes.now → 0 < power → DigitsPut p q n power →
+pub digits_next : {p q r : Page} {n power : ℕ} (x : ℕ) → Room p 10 → 0 < power → DigitsPut p q n power →
     x ≡ 48 + n / power % 10 → Puts q r (x ∷ []) 1 → DigitsPut p r n (power / 10)
 unfolding tens digits_from
 digits_next {p} {q} {r} {n} {power} x room some d e put = go d.left d.few d.next d.front d.whole d.put
@@ -61,8 +61,8 @@ digits_next {p} {q} {r} {n} {power} x room some d e put = go d.left d.few d.next
         }
 
 -- room for the next digit
-pub digits_room : {p q : Page} {n power : ℕ} → p.end + 10 ≤ length p.bytes.now → 0 < power → DigitsPut p q n power →
-    q.end < length q.bytes.now
+pub digits_room : {p q : Page} {n power : ℕ} → Room p 10 → 0 < power → DigitsPut p q n power →
+    Room q 1
 unfolding tens
 digits_room {p} {q} {n} {power} room some d =
     omega (arith, puts_length (omega arith) d.put, d.put.ends, d.put.few, one d.left d.next, d.few)
@@ -92,7 +92,7 @@ pub record FieldsPut (p q : Page) (ns : List ℕ) (i : ℕ) : Type 0 where
 pub fields_none : (p : Page) (ns : List ℕ) → FieldsPut p p ns 0
 fields_none p ns = record { front = []; whole = refl; put = nothing_put p }
 
-pub fields_more : {p q r : Page} (ns : List ℕ) (i : ℕ) → p.end + (11 * length ns + 1) ≤ length p.bytes.now → i < length ns →
+pub fields_more : {p q r : Page} (ns : List ℕ) (i : ℕ) → Room p (11 * length ns + 1) → i < length ns →
     FieldsPut p q ns i → Puts q r (32 ∷ decimal (get_or ns i 0)) 11 → FieldsPut p r ns (i + 1)
 unfolding fields
 fields_more ns i room h f put =
@@ -107,7 +107,7 @@ fields_more ns i room h f put =
       put = at_most _ (omega arith) (puts_then (omega arith) f.put put);
     }
 
-pub fields_done : {p q r : Page} (ns : List ℕ) (i : ℕ) → p.end + (11 * length ns + 1) ≤ length p.bytes.now → i ≡ length ns →
+pub fields_done : {p q r : Page} (ns : List ℕ) (i : ℕ) → Room p (11 * length ns + 1) → i ≡ length ns →
     FieldsPut p q ns i → Puts q r (10 ∷ []) 1 → Puts p r (fields ns) (11 * length ns + 1)
 unfolding fields
 fields_done ns i room e f put =
@@ -139,8 +139,8 @@ rows_none p table count h e f =
     rw (e, f) (record { within = h; few = omega arith; front = []; whole = refl; put = at_most _ (omega arith) (nothing_put p) })
 
 -- room for the next row
-pub rows_room : {p q : Page} {table rest : List ℕ} {count left : ℕ} (n : ℕ) → p.end + 44 * count ≤ length p.bytes.now → n + 1 ≡ left →
-    RowsPut p q table count rest left → q.end + 44 ≤ length q.bytes.now
+pub rows_room : {p q : Page} {table rest : List ℕ} {count left : ℕ} (n : ℕ) → Room p (44 * count) → n + 1 ≡ left →
+    RowsPut p q table count rest left → Room q 44
 rows_room n room e f = omega (arith, puts_length (omega (arith, f.few)) f.put, f.put.ends, f.put.few, f.few)
 
 -- a row of four numbers that stands in front of a table
@@ -153,7 +153,7 @@ row_first (a ∷ b ∷ c ∷ []) t e = absurd (omega arith)
 row_first (a ∷ b ∷ c ∷ d ∷ []) t e = (refl, refl)
 row_first (a ∷ b ∷ c ∷ d ∷ f ∷ row) t e = absurd (omega arith)
 
-pub rows_more : {p q r : Page} {table all rest : List ℕ} {count left n : ℕ} (row : List ℕ) → p.end + 44 * count ≤ length p.bytes.now →
+pub rows_more : {p q r : Page} {table all rest : List ℕ} {count left n : ℕ} (row : List ℕ) → Room p (44 * count) →
     length row ≡ 4 → all ≡ row ++ rest → n + 1 ≡ left → RowsPut p q table count all left → Puts q r (row_line (first_row row)) 44 →
     RowsPut p r table count rest n
 unfolding row_lines row_line rows_of
@@ -194,7 +194,7 @@ rows_done {p} {q} {table} {rest} {count} {left} short f =
 
 -- ---- whole lines
 
-pub row_put : {p q r : Page} (row : List ℕ) → length row ≡ 4 → p.end + 44 ≤ length p.bytes.now →
+pub row_put : {p q r : Page} (row : List ℕ) → length row ≡ 4 → Room p 44 →
     Puts p q (decimal (get_or row 0 0)) 10 → Puts q r (fields (take (length row - 1) (drop 1 row))) (11 * length (take (length row - 1) (drop 1 row)) + 1) →
     Puts p r (row_line (first_row row)) 44
 unfolding row_line first_row
@@ -205,7 +205,7 @@ row_put (x ∷ y ∷ z ∷ []) e h a b = absurd (omega arith)
 row_put (x ∷ y ∷ z ∷ u ∷ []) e h a b = puts_then h a b
 row_put (x ∷ y ∷ z ∷ u ∷ v ∷ row) e h a b = absurd (omega arith)
 
-pub tail_room : {p q : Page} {v : List ℕ} (row : List ℕ) → length row ≡ 4 → p.end + 44 ≤ length p.bytes.now → Puts p q v 10 →
-    q.end + (11 * length (take (length row - 1) (drop 1 row)) + 1) ≤ length q.bytes.now
+pub tail_room : {p q : Page} {v : List ℕ} (row : List ℕ) → length row ≡ 4 → Room p 44 → Puts p q v 10 →
+    Room q (11 * length (take (length row - 1) (drop 1 row)) + 1)
 tail_room row e h a =
     omega (arith, puts_length (omega arith) a, a.ends, a.few, length-take-le (length row - 1) (drop 1 row) (omega (arith, length-drop 1 row)))

@@ -7,6 +7,10 @@ use Rattle.laws.specs.Stores.{stored, stored_none, behind, length-stored}
 use Rattle.lines.specs.declared.Page.{Page}
 use Rattle.lines.specs.Digits.{Put}
 
+-- so many bytes have room behind the page's end
+abbrev pub Room : Page → ℕ → Type 0
+Room p n = p.end + n ≤ length p.bytes.now
+
 -- These bytes, at most `most`, were put at the end of the page p, which then is q.
 pub record Puts (p q : Page) (v : List ℕ) (most : ℕ) : Type 0 where
   pub same_buffer : q.bytes.ghost_name ≡ p.bytes.ghost_name
@@ -21,12 +25,12 @@ nothing_put p =
 pub at_most : {p q : Page} {v : List ℕ} {m : ℕ} (k : ℕ) → m ≤ k → Puts p q v m → Puts p q v k
 at_most k h a = record { same_buffer = a.same_buffer; holds = a.holds; ends = a.ends; few = omega (arith, a.few) }
 
-pub puts_length : {p q : Page} {v : List ℕ} {m : ℕ} → p.end + m ≤ length p.bytes.now → Puts p q v m →
+pub puts_length : {p q : Page} {v : List ℕ} {m : ℕ} → Room p m → Puts p q v m →
     length q.bytes.now ≡ length p.bytes.now
 puts_length {p} {q} {v} h a = ap length a.holds ∙ length-stored p.bytes.now p.end v (omega (arith, a.few))
 
 -- what is put behind what was put
-pub puts_then : {p q r : Page} {v w : List ℕ} {m k : ℕ} → p.end + (m + k) ≤ length p.bytes.now → Puts p q v m → Puts q r w k →
+pub puts_then : {p q r : Page} {v w : List ℕ} {m k : ℕ} → Room p (m + k) → Puts p q v m → Puts q r w k →
     Puts p r (v ++ w) (m + k)
 puts_then {p} {q} {r} {v} {w} h a b =
     record {

@@ -3,9 +3,9 @@
 // was put, and the digits left to put, are together those of the number.
 #![tactic(auto)]
 
-ghost use Rattle.std.specs.Prelude.{◌≡◌, [], ◌∷◌, ◌+◌, ◌*◌, ◌%◌, ◌≤◌, ◌<◌, length};
+ghost use Rattle.std.specs.Prelude.{◌≡◌, [], ◌∷◌, ◌+◌, ◌*◌, ◌%◌, ◌≤◌, length};
 ghost use Rattle.lines.specs.Digits.{IsLead, Put};
-ghost use Rattle.lines.specs.Pages.{Puts};
+ghost use Rattle.lines.specs.Pages.{Puts, Room};
 ghost use Rattle.lines.specs.Fields.{row_line, planned};
 ghost use Rattle.rules.specs.Plans.{first_row, rows_of};
 ghost use Rattle.rules.specs.Listings.{decimal, fields, row_lines, refused_line};
@@ -36,7 +36,7 @@ struct Page<'a> {
 
 impl<'a> Page<'a> {
     fn byte(&mut self, x: u8)
-        requires { self.old.end < length self.old.bytes.now }
+        requires { Room self.old 1 }
         ensures { Puts self.old self.new (x ∷ []) 1 }
     {
         self.bytes[self.end] = x;
@@ -44,7 +44,7 @@ impl<'a> Page<'a> {
     }
 
     fn text(&mut self, words: &[u8])
-        requires { self.old.end + length words.now ≤ length self.old.bytes.now }
+        requires { Room self.old (length words.now) }
         ensures { Puts self.old self.new words.now (length words.now) }
     {
         let end = self.end + words.len();
@@ -54,7 +54,7 @@ impl<'a> Page<'a> {
 
     // A number in decimal digits.
     fn decimal(&mut self, n: u32)
-        requires { self.old.end + 10 ≤ length self.old.bytes.now }
+        requires { Room self.old 10 }
         ensures { Puts self.old self.new (decimal n) 10 }
     {
         let mut power = lead(n);
@@ -66,7 +66,7 @@ impl<'a> Page<'a> {
 
     // A space and a number.
     fn field(&mut self, n: u32)
-        requires { self.old.end + 11 ≤ length self.old.bytes.now }
+        requires { Room self.old 11 }
         ensures { Puts self.old self.new (32 ∷ decimal n) 11 }
     {
         self.byte(b' ');
@@ -75,7 +75,7 @@ impl<'a> Page<'a> {
 
     // Each number behind a space, then a line feed.
     fn fields(&mut self, numbers: &[u32])
-        requires { self.old.end + (11 * length numbers.now + 1) ≤ length self.old.bytes.now }
+        requires { Room self.old (11 * length numbers.now + 1) }
         ensures { Puts self.old self.new (fields numbers.now) (11 * length numbers.now + 1) }
     {
         for n in numbers {
@@ -87,7 +87,7 @@ impl<'a> Page<'a> {
     // The line of a row, which is four numbers.
     fn row(&mut self, row: &[u32])
         requires four { length row.now ≡ 4 }
-        requires room { self.old.end + 44 ≤ length self.old.bytes.now }
+        requires room { Room self.old 44 }
         ensures { Puts self.old self.new (row_line (first_row row.now)) 44 }
     {
         self.decimal(row[0]);
@@ -97,7 +97,7 @@ impl<'a> Page<'a> {
     // The lines of the first rows of a table.
     fn rows(&mut self, table: &[u32], count: usize)
         requires within { 4 * count ≤ length table.now }
-        requires room { self.old.end + 44 * count ≤ length self.old.bytes.now }
+        requires room { Room self.old (44 * count) }
         ensures { Puts self.old self.new (row_lines (rows_of count table.now)) (44 * count) }
     {
         for row in table.chunks_exact(4).take(count) {

@@ -5,4 +5,4 @@ use Rattle.lines.proofs.Page.byte.Goals as goal
 
 pub returns : goal.returns
 returns c =
-    record { same_buffer = refl; holds = put_one c.args.self.now.bytes.now c.args.self.now.end c.args.x c.requires; ends = refl; few = omega arith }
+    record { same_buffer = refl; holds = put_one c.args.self.now.bytes.now c.args.self.now.end c.args.x (omega arith); ends = refl; few = omega arith }
