@@ -6,7 +6,7 @@ use Rattle.rules.specs.Plans.{Row, first_row, rows_of}
 use Rattle.rules.specs.Listings.{decimal, fields, row_lines}
 use Rattle.lines.specs.declared.Page.{Page}
 use Rattle.lines.specs.Digits.{IsLead, digits_from, digits_all, power_pos}
-use Rattle.lines.specs.Pages.{Room, Puts, puts_length, nothing_put, at_most, puts_then}
+use Rattle.lines.specs.Pages.{Room, Puts, room_left, nothing_put, at_most, puts_then}
 
 -- ---- the digits of a number
 
@@ -65,7 +65,7 @@ pub digits_room : {p q : Page} {n power : ℕ} → Room p 10 → 0 < power → D
     Room q 1
 unfolding tens
 digits_room {p} {q} {n} {power} room some d =
-    omega (arith, puts_length (omega arith) d.put, d.put.ends, d.put.few, one d.left d.next, d.few)
+    room_left 1 (omega (arith, one d.left d.next, d.few)) d.put
   where
     one : (left : ℕ) → power ≡ tens left → 0 < left
     one zero e = absurd (omega arith)
@@ -141,7 +141,7 @@ rows_none p table count h e f =
 -- room for the next row
 pub rows_room : {p q : Page} {table rest : List ℕ} {count left : ℕ} (n : ℕ) → Room p (44 * count) → n + 1 ≡ left →
     RowsPut p q table count rest left → Room q 44
-rows_room n room e f = omega (arith, puts_length (omega (arith, f.few)) f.put, f.put.ends, f.put.few, f.few)
+rows_room n room e f = room_left 44 (omega (arith, f.few)) f.put
 
 -- a row of four numbers that stands in front of a table
 row_first : (row t : List ℕ) → length row ≡ 4 → (first_row (row ++ t) ≡ first_row row) × (drop 4 (row ++ t) ≡ t)
@@ -208,4 +208,4 @@ row_put (x ∷ y ∷ z ∷ u ∷ v ∷ row) e h a b = absurd (omega arith)
 pub tail_room : {p q : Page} {v : List ℕ} (row : List ℕ) → length row ≡ 4 → Room p 44 → Puts p q v 10 →
     Room q (11 * length (take (length row - 1) (drop 1 row)) + 1)
 tail_room row e h a =
-    omega (arith, puts_length (omega arith) a, a.ends, a.few, length-take-le (length row - 1) (drop 1 row) (omega (arith, length-drop 1 row)))
+    room_left _ (omega (arith, length-take-le (length row - 1) (drop 1 row) (omega (arith, length-drop 1 row)))) a

@@ -29,6 +29,10 @@ pub puts_length : {p q : Page} {v : List ℕ} {m : ℕ} → Room p m → Puts p 
     length q.bytes.now ≡ length p.bytes.now
 puts_length {p} {q} {v} h a = ap length a.holds ∙ length-stored p.bytes.now p.end v (omega (arith, a.few))
 
+-- what room is left
+pub room_left : {p q : Page} {v : List ℕ} {m : ℕ} (k : ℕ) → Room p (m + k) → Puts p q v m → Room q k
+room_left k h a = omega (arith, puts_length (omega arith) a, a.ends, a.few)
+
 -- what is put behind what was put
 pub puts_then : {p q r : Page} {v w : List ℕ} {m k : ℕ} → Room p (m + k) → Puts p q v m → Puts q r w k →
     Puts p r (v ++ w) (m + k)
