@@ -438,7 +438,7 @@ class Source:
         if len(chain) > LONGEST:
             raise Bad(f"no end is found of the calls from {chain[0].name} on")
         if chosen not in done:
-            for called in sorted(self.targets(chosen)[0]):
+            for called in sorted(self.targets(chosen)[0], key=repr):
                 self.follow(called, (*chain, chosen), done)
             done.add(chosen)
 
@@ -452,7 +452,7 @@ class Source:
         if isinstance(chosen, str):
             chosen = Chosen(chosen, (), ())
         if chosen not in self.known:
-            under = max(map(self.deepest, self.targets(chosen)[0]), default=Chain(0, ()))
+            under = max(map(self.deepest, self.targets(chosen)[0]), key=lambda chain: (chain.size, chain.parts), default=Chain(0, ()))
             own = self.bytes(chosen)
             self.known[chosen] = Chain(own + under.size, ((chosen.name, own), *under.parts))
         return self.known[chosen]
