@@ -1,7 +1,7 @@
 -- The whole answer for a day.
 use Rattle.std.specs.Prelude.{◌≡◌, refl, None, Some, Result, Ok, Err, true, false, ℕ, ◌*◌, ◌-◌, ◌≤◌, ◌<◌, length, take, List, [], ◌++◌, map}
-use Rattle.std.proofs.Common.{sym, ◌∙◌, arith, length-take-le, take_at, Fits, lt-ltb, le-ltb, ap}
-use Rattle.std.proofs.lemmas.List.{length-replicate, take-replicate}
+use Rattle.std.proofs.Common.{◌∙◌, arith, take_at, Fits, lt-ltb, le-ltb, ap}
+use Rattle.std.proofs.lemmas.List.{take-replicate}
 use Rattle.std.specs.Int.{w32}
 use Rattle.std.specs.Result.{result_unwrap_or}
 use Rattle.refusals.specs.declared.Fault.{Fault}
@@ -20,9 +20,9 @@ use Rattle.planner.specs.Said.{planned_of, Answered}
 use Rattle.planner.specs.Jobs.{Told}
 
 -- what 12, 13, 10 and 14 have let through
-pub record Day (free works dues table : List ℕ) : Type 0 where
-  pub some_boards : 0 < length free
-  pub few_boards : length free ≤ most_boards
+pub record Day (m : ℕ) (works dues table : List ℕ) : Type 0 where
+  pub some_boards : 1 ≤ m
+  pub few_boards : m ≤ most_boards
   pub same_long : length works ≡ length dues
   pub few_jobs : length works ≤ most_jobs
   pub space : 8 * length works ≤ length table
@@ -50,30 +50,23 @@ told_cleared (placed rs) table result table' t e rows u =
           ∙ ap (λ (l : List ℕ). l ++ zeros (length table - 4 * length rs)) (rows_front rs table);
     }
 
-pub prefix_long : (n : ℕ) (xs : List ℕ) → n ≤ length xs → n ≡ length (take n xs)
-prefix_long n xs h = sym (length-take-le n xs h)
-
-module _ (free works dues table : List ℕ) (day : Day free works dues table) (o rest : List ℕ) (long : length o ≡ length works)
-  where
-    front : take (length works) (o ++ rest) ≡ o
-    front = take_at o rest (length works) long
-
-    pub day_jobs : o ≡ map record_of (due_order (jobs works dues)) →
-        map job_in (take (length works) (o ++ rest)) ≡ due_order (jobs works dues)
-    day_jobs e = ap (map job_in) (front ∙ e) ∙ jobs_ordered works dues day.in_range day.few_jobs
-
--- "Each board has a free-from minute, at first 0": the front of as many zeros as there may be boards
-pub answered_zeros : (m : ℕ) (works dues table : List ℕ) → Day (zeros m) works dues table → (free : List ℕ)
+-- "Each board has a free-from minute, at first 0": the front of as many zeros as there may be boards; and the records come
+-- back as the jobs in due order, as many as there are jobs.
+pub answered_day : (m : ℕ) (works dues table : List ℕ) → Day m works dues table → (free o rest : List ℕ)
     (result : Result ℕ Fault) (table' : List ℕ) →
-    Answered (after_placing (place_all [] (take m free) (due_order (jobs works dues))) table) result table' →
-    free ≡ zeros most_boards → Answered (after_placing (placing m works dues) table) result table'
+    Answered (after_placing (place_all [] (take m free) (map job_in (take (length works) (o ++ rest)))) table) result table' →
+    free ≡ zeros most_boards → length o ≡ length works → o ≡ map record_of (due_order (jobs works dues)) →
+    Answered (after_placing (placing m works dues) table) result table'
 unfolding placing
-answered_zeros m works dues table day free result table' a e =
-    rw (ap (take m) e ∙ take-replicate m most_boards 0 (omega (arith, day.few_boards, length-replicate {A = ℕ} m 0))) at a
+answered_day m works dues table day free o rest result table' a e long sorted =
+    let front : take m free ≡ zeros m = ap (take m) e ∙ take-replicate m most_boards 0 (omega (arith, day.few_boards)) in
+    let ordered : map job_in (take (length works) (o ++ rest)) ≡ due_order (jobs works dues) =
+    ap (map job_in) (take_at o rest (length works) long ∙ sorted) ∙ jobs_ordered works dues day.in_range day.few_jobs in
+    rw (front, ordered) at a
 
 -- what the tests leave: the answer's refusal, or a day whose answer is that of placing its jobs
 abbrev pub Tested : ℕ → List ℕ → List ℕ → List ℕ → Result (Unit {0}) Fault → Type 0
-Tested m works dues table (Ok done) = Day (zeros m) works dues table
+Tested m works dues table (Ok done) = Day m works dues table
     × (plan_answer m works dues table ≡ after_placing (placing m works dues) table)
 Tested m works dues table (Err fault) = plan_answer m works dues table ≡ refused_plan fault.refusal fault.place table
 
@@ -120,8 +113,8 @@ module _ (m : ℕ) (works dues table : List ℕ) where
         tested_good e =
             let none : first_out works dues ≡ 0 = found_none (first_out works dues) e refl in (
               record {
-                some_boards = omega (arith, (boards_fit m boards).0, length-replicate {A = ℕ} m 0);
-                few_boards = omega (arith, (boards_fit m boards).1, length-replicate {A = ℕ} m 0);
+                some_boards = (boards_fit m boards).0;
+                few_boards = (boards_fit m boards).1;
                 same_long = (lists_fit works dues lists).0;
                 few_jobs = (lists_fit works dues lists).1.1;
                 space = space;

@@ -69,35 +69,18 @@ fn plan_records(records: &[u64], free: &mut [u32], table: &mut [u32]) -> Result<
     said
 }
 
-// The same for a day that has passed 13, 10 and 14, in scratch that is lent.
-fn plan_from(
-    work: &[u32],
-    due: &[u32],
-    free: &mut [u32],
-    records: &mut [u64],
-    scratch: &mut [u64],
-    table: &mut [u32],
-) -> Result<u32, Fault>
-    requires day { Day free.old work.now due.now table.old }
-    requires records_long { most_jobs ≤ length records.old }
-    requires scratch_long { most_jobs ≤ length scratch.old }
-    ensures { Answered (after_placing (place_all [] free.old (due_order (jobs work.now due.now))) table.old) result table.new }
-{
-    let n = work.len();
-    ordering::due_order(work, due, &mut records[..n], &mut scratch[..n]);
-    plan_records(&records[..n], free, table)
-}
-
-// "Each board has a free-from minute, at first 0". All scratch of the planner is here: 16,256 bytes.
+// "Each board has a free-from minute, at first 0". All scratch of the planner is here, of fixed size: 16,256 bytes.
 fn plan_day(boards: u32, work: &[u32], due: &[u32], table: &mut [u32]) -> Result<u32, Fault>
-    requires { Day (zeros boards) work.now due.now table.old }
+    requires { Day boards work.now due.now table.old }
     ensures { Answered (after_placing (placing boards work.now due.now) table.old) result table.new }
 {
+    let n = work.len();
     let m = boards as usize;
     let mut records = [0u64; MOST_JOBS];
     let mut scratch = [0u64; MOST_JOBS];
     let mut free = [0u32; MOST_BOARDS];
-    plan_from(work, due, &mut free[..m], &mut records, &mut scratch, table)
+    ordering::due_order(work, due, &mut records[..n], &mut scratch[..n]);
+    plan_records(&records[..n], &mut free[..m], table)
 }
 
 // "Order: 12; 13; 10 (table under 8 numbers per job); 14"
