@@ -7,7 +7,6 @@ use Rattle.rules.specs.declared.Refusal.{Refusal}
 use Rattle.rules.specs.declared.Refusal.TheVariants.{ShortBuffer, LongFile}
 use Rattle.rules.specs.declared.OrderRead.{OrderRead}
 use Rattle.rules.specs.Basics.{zeros, most_jobs, most_bytes}
-use Rattle.rules.specs.Refusals.{number_of}
 use Rattle.rules.specs.Orders.{Outcome, refused, accepted, ReadAnswer, refused_read, after_reading, read_answer, order_of}
 use Rattle.laws.specs.Tests.{pick_yes, pick_no, or_left, or_right, or_no}
 use Rattle.refusals.specs.declared.Fault.{Fault}
@@ -35,7 +34,7 @@ module _ (e : Result Order Fault) (kept : ℕ) (work due work' due' : List ℕ) 
   unfolding outcome_of said_of after_reading
   answers_accepted order q k lw ld =
       let whole : (l : List ℕ) → order.jobs ≤ length l → take kept l ++ zeros (length l - kept) ≡ take order.jobs l ++ zeros (length l - length (take order.jobs l)) =
-        λ (l : List ℕ) h. ap (λ (n : ℕ). take n l ++ zeros (length l - n)) k ∙ ap (λ (n : ℕ). take order.jobs l ++ zeros (length l - n)) (sym (length-take-le order.jobs l h)) in
+      λ (l : List ℕ) h. ap (λ (n : ℕ). take n l ++ zeros (length l - n)) k ∙ ap (λ (n : ℕ). take order.jobs l ++ zeros (length l - n)) (sym (length-take-le order.jobs l h)) in
       subst (λ (x : Result Order Fault). Answers (after_reading (outcome_of x work due) work due) x work' due') (sym q)
       (record {
         said = ap {B = OrderRead} (λ (n : ℕ). record { refusal = 0; place = 0; boards = order.boards; jobs = n }) (sym (length-take-le order.jobs work lw));

@@ -1,7 +1,6 @@
 -- Laws of the definition's steps and of what the lists hold, for the proofs to cite.
-use Rattle.std.specs.Prelude.{◌≡◌, refl, Bool, true, false, List, [], ◌∷◌, ◌++◌, ℕ, suc, ◌+◌, ◌-◌, ◌≤◌, ◌<◌, min, length, take, get_or, set, leb, eqb}
-use Rattle.std.proofs.Common.{ap, subst, sym, ◌∙◌, true≢false, add-one, arith, append_assoc, length-append, take-suc-set, take_all, get_or-set_other, get_or-set_same, eq-eqb, ne_eqb}
-use Rattle.std.proofs.lemmas.List.{replicate-append-replicate}
+use Rattle.std.specs.Prelude.{◌≡◌, refl, List, [], ◌∷◌, ◌++◌, ℕ, suc, ◌+◌, ◌-◌, ◌≤◌, ◌<◌, min, length, take, get_or, set, leb, eqb}
+use Rattle.std.proofs.Common.{ap, subst, sym, ◌∙◌, add-one, arith, length-append, take-suc-set, get_or-set_other, get_or-set_same, eq-eqb, ne_eqb}
 use Rattle.rules.specs.declared.Word.{Word}
 use Rattle.rules.specs.declared.Word.TheVariants.{Order, Group, Job, Number, Other}
 use Rattle.rules.specs.declared.Token.{Token}
@@ -9,27 +8,13 @@ use Rattle.rules.specs.declared.Token.TheVariants.{Open, Close, Atom, End, Forei
 use Rattle.rules.specs.declared.Wanted.{Wanted}
 use Rattle.rules.specs.declared.Wanted.TheVariants.{Boards, ItemOrClose, GroupDue, JobWork, JobDue, JobClose, Finish}
 use Rattle.rules.specs.declared.Refusal.TheVariants.{NotAllowed, NoNumber, AboveLimit}
-use Rattle.rules.specs.Basics.{pick, is_empty, zeros, most_jobs}
+use Rattle.rules.specs.Basics.{pick, is_empty, most_jobs}
 use Rattle.rules.specs.Orders.{Reading, Step, go, stop, least_due, up_to, atom_number, number, atom_word, word, bracket, ending, leave}
 use Rattle.laws.specs.Tests.{pick_yes, pick_no}
 use Rattle.grammar.specs.declared.Turn.TheVariants.{Want, Take}
 use Rattle.grammar.specs.Turns.{misplaced_as, taken, left, acted, capped, Held, deepest, fullest, half, Sound, Shows}
 
--- ---- where a number or a word is wanted
-unfoldable pub is_atom : Token → Bool
-is_atom Open = false
-is_atom Close = false
-is_atom (Atom w) = true
-is_atom End = false
-is_atom Foreign = false
-
-unfoldable pub is_numeral : Word → Bool
-is_numeral Order = false
-is_numeral Group = false
-is_numeral Job = false
-is_numeral (Number n) = true
-is_numeral Other = false
-
+-- ---- a token or a word where another is wanted
 pub bracket_misplaced : (t : Token) (p : ℕ) (a b : Step) → (t ≡ Open → ⊥) → (t ≡ Close → ⊥) → bracket t p a b ≡ stop (misplaced_as t) p
 unfolding bracket misplaced_as
 bracket_misplaced Open p a b o c = absurd (o refl)
@@ -46,21 +31,21 @@ ending_misplaced (Atom w) p a e = refl
 ending_misplaced End p a e = absurd (e refl)
 ending_misplaced Foreign p a e = refl
 
-pub number_misplaced : (limit : ℕ) (t : Token) (p : ℕ) (f : ℕ → Step) → is_atom t ≡ false → number limit t p f ≡ stop (misplaced_as t) p
-unfolding number misplaced_as is_atom
-number_misplaced limit Open p f e = refl
-number_misplaced limit Close p f e = refl
-number_misplaced limit (Atom w) p f e = absurd (true≢false e)
-number_misplaced limit End p f e = refl
-number_misplaced limit Foreign p f e = refl
+pub number_misplaced : (limit : ℕ) (t : Token) (p : ℕ) (f : ℕ → Step) → ((w : Word) → t ≡ Atom w → ⊥) → number limit t p f ≡ stop (misplaced_as t) p
+unfolding number misplaced_as
+number_misplaced limit Open p f a = refl
+number_misplaced limit Close p f a = refl
+number_misplaced limit (Atom w) p f a = absurd (a w refl)
+number_misplaced limit End p f a = refl
+number_misplaced limit Foreign p f a = refl
 
-pub word_misplaced : (t : Token) (p : ℕ) (a b c : Step) → is_atom t ≡ false → word t p a b c ≡ stop (misplaced_as t) p
-unfolding word misplaced_as is_atom
-word_misplaced Open p a b c e = refl
-word_misplaced Close p a b c e = refl
-word_misplaced (Atom w) p a b c e = absurd (true≢false e)
-word_misplaced End p a b c e = refl
-word_misplaced Foreign p a b c e = refl
+pub word_misplaced : (t : Token) (p : ℕ) (a b c : Step) → ((w : Word) → t ≡ Atom w → ⊥) → word t p a b c ≡ stop (misplaced_as t) p
+unfolding word misplaced_as
+word_misplaced Open p a b c n = refl
+word_misplaced Close p a b c n = refl
+word_misplaced (Atom w) p a b c n = absurd (n w refl)
+word_misplaced End p a b c n = refl
+word_misplaced Foreign p a b c n = refl
 
 no_word : (w : Word) (p : ℕ) (a b c : Step) → (w ≡ Order → ⊥) → (w ≡ Group → ⊥) → (w ≡ Job → ⊥) → atom_word w p a b c ≡ stop NotAllowed p
 unfolding atom_word
@@ -75,15 +60,15 @@ pub word_none : (t : Token) (w : Word) (p : ℕ) (a b c : Step) → t ≡ Atom w
 unfolding word misplaced_as
 word_none t w p a b c e o g j = ap (λ (u : Token). word u p a b c) e ∙ no_word w p a b c o g j
 
-none_is : (limit : ℕ) (w : Word) (p : ℕ) (f : ℕ → Step) → is_numeral w ≡ false → atom_number limit w p f ≡ stop NoNumber p
-unfolding atom_number is_numeral
+none_is : (limit : ℕ) (w : Word) (p : ℕ) (f : ℕ → Step) → ((n : ℕ) → w ≡ Number n → ⊥) → atom_number limit w p f ≡ stop NoNumber p
+unfolding atom_number
 none_is limit Order p f e = refl
 none_is limit Group p f e = refl
 none_is limit Job p f e = refl
-none_is limit (Number n) p f e = absurd (true≢false e)
+none_is limit (Number n) p f e = absurd (e n refl)
 none_is limit Other p f e = refl
 
-pub number_none : (limit : ℕ) (t : Token) (w : Word) (p : ℕ) (f : ℕ → Step) → t ≡ Atom w → is_numeral w ≡ false → number limit t p f ≡ stop NoNumber p
+pub number_none : (limit : ℕ) (t : Token) (w : Word) (p : ℕ) (f : ℕ → Step) → t ≡ Atom w → ((n : ℕ) → w ≡ Number n → ⊥) → number limit t p f ≡ stop NoNumber p
 unfolding number
 number_none limit t w p f e n = ap (λ (u : Token). number limit u p f) e ∙ none_is limit w p f n
 

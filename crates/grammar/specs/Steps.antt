@@ -10,7 +10,6 @@ use Rattle.rules.specs.declared.Wanted.{Wanted}
 use Rattle.rules.specs.declared.Wanted.TheVariants.{OrderOpen, OrderWord, Boards, ItemOrClose, ItemWord, GroupDue, JobWork, JobDue, JobClose, Finish}
 use Rattle.rules.specs.declared.Refusal.{Refusal}
 use Rattle.rules.specs.declared.Refusal.TheVariants.{AboveLimit}
-use Rattle.refusals.specs.declared.Fault.{Fault}
 use Rattle.rules.specs.Basics.{pick, is_empty, most_boards, most_minutes, most_jobs, most_levels}
 use Rattle.rules.specs.Tokens.{Placed, tokens, tokens_from, closing, between, is_letter_or_digit, is_blank}
 use Rattle.rules.specs.Orders.{Reading, Step, go, stop, done, Outcome, accepted, least_due, up_to, atom_number, number, atom_word, word, bracket, ending, leave, want, step_at, after, reads, start, order_of}
@@ -20,7 +19,7 @@ use Rattle.lexer.specs.declared.Seen.{Seen}
 use Rattle.grammar.specs.declared.State.{State}
 use Rattle.grammar.specs.declared.Turn.{Turn}
 use Rattle.grammar.specs.declared.Turn.TheVariants.{Want, Take, Leave, Done}
-use Rattle.grammar.specs.Turns.{acted, turned, meant, Goes, deepest, fullest, half, Sound, Holds, Decides, Long, Lent, Acts, Bounded, Finished, Stands, Starts}
+use Rattle.grammar.specs.Turns.{acted, turned, meant, Goes, deepest, fullest, half, Sound, Decides, Long, Lent, Acts, Bounded, Finished, Stands}
 
 -- ---- a fact of a step, from the same fact of the steps that it chooses from
 pub pick_all : {A : Type 0} (P : A → Type 0) (b : Bool) (x y : A) → (b ≡ true → P x) → (b ≡ false → P y) → P (pick b x y)

@@ -9,7 +9,7 @@ use Rattle.rules.specs.declared.OrderRead.{OrderRead}
 use Rattle.rules.specs.declared.Refusal.TheVariants.{ForeignByte, NotAllowed, Unclosed}
 use Rattle.refusals.specs.declared.Fault.{Fault}
 use Rattle.rules.specs.Refusals.{number_of}
-use Rattle.rules.specs.Basics.{pick, most_jobs, most_levels, most_bytes}
+use Rattle.rules.specs.Basics.{pick, most_jobs, most_levels}
 use Rattle.rules.specs.Orders.{Reading, Step, go, stop, done, Outcome, refused, accepted, least_due, step_at, reads, order_of, ReadAnswer}
 use Rattle.lexer.specs.Scan.{tokens_at}
 use Rattle.grammar.specs.declared.State.{State}

@@ -91,6 +91,7 @@ fn misplaced(token: Token) -> Refusal
     }
 }
 
+#[tactic(auto, using(crate::specs::Laws::bracket_misplaced), unfolding(rules::specs::Orders::bracket, crate::specs::Turns::meant))]
 fn bracket_wanted(
     token: Token,
     opens: Result<Turn, Refusal>,
@@ -105,6 +106,7 @@ fn bracket_wanted(
     }
 }
 
+#[tactic(auto, using(crate::specs::Laws::word_misplaced), unfolding(rules::specs::Orders::word, rules::specs::Orders::atom_word, crate::specs::Turns::meant))]
 fn word_wanted(
     token: Token,
     order: Result<Turn, Refusal>,
@@ -125,6 +127,7 @@ fn word_wanted(
 }
 
 // 01: "is refused where the grammar wants a number": 4 for an atom that is none, 2 for a bracket, 5 above the limit.
+#[tactic(auto, using(crate::specs::Laws::number_misplaced, crate::specs::Laws::number_none), unfolding(crate::specs::Turns::meant))]
 fn number_wanted(token: Token, limit: u32) -> Result<Turn, Refusal>
     ensures { (r : Reading) (p : ℕ) → meant r p result ≡ number limit token p (λ n. go (acted r (Turn.Take n))) }
 {
@@ -140,6 +143,7 @@ fn number_wanted(token: Token, limit: u32) -> Result<Turn, Refusal>
     Ok(Turn::Take(n))
 }
 
+#[tactic(auto, using(crate::specs::Laws::ending_misplaced), unfolding(rules::specs::Orders::ending, crate::specs::Turns::meant))]
 fn end_wanted(token: Token, ends: Result<Turn, Refusal>) -> Result<Turn, Refusal>
     ensures { (r : Reading) (p : ℕ) → meant r p result ≡ ending token p (meant r p ends) }
 {
@@ -150,6 +154,7 @@ fn end_wanted(token: Token, ends: Result<Turn, Refusal>) -> Result<Turn, Refusal
 }
 
 // 01: 6, "a group at level 33".
+#[tactic(auto, unfolding(rules::specs::Orders::want, crate::specs::Turns::meant, crate::specs::Turns::turned, crate::specs::Turns::acted))]
 fn group_begins(level: usize) -> Result<Turn, Refusal>
     ensures { (r : Reading) (p : ℕ) → meant r p result ≡ pick (ltb level most_levels) (want r Wanted.GroupDue) (stop Refusal.TooDeep p) }
 {
@@ -160,6 +165,7 @@ fn group_begins(level: usize) -> Result<Turn, Refusal>
 }
 
 // 01: 7, "a 1,001st job".
+#[tactic(auto, unfolding(rules::specs::Orders::want, crate::specs::Turns::meant, crate::specs::Turns::turned, crate::specs::Turns::acted))]
 fn job_begins(jobs: usize) -> Result<Turn, Refusal>
     ensures { (r : Reading) (p : ℕ) → meant r p result ≡ pick (ltb jobs most_jobs) (want r Wanted.JobWork) (stop Refusal.TooManyJobs p) }
 {
@@ -170,6 +176,7 @@ fn job_begins(jobs: usize) -> Result<Turn, Refusal>
 }
 
 // 01: 8, "a well-formed order without a job".
+#[tactic(auto, unfolding(crate::specs::Turns::meant, crate::specs::Turns::turned))]
 fn order_ends(jobs: usize) -> Result<Turn, Refusal>
     ensures { (r : Reading) (p : ℕ) → meant r p result ≡ pick (eqb jobs 0) (stop Refusal.NoJob p) done }
 {
@@ -181,6 +188,7 @@ fn order_ends(jobs: usize) -> Result<Turn, Refusal>
 
 impl<'f, 'w, 'd, 'l> State<'f, 'w, 'd, 'l> {
     // At the file's first byte.
+    #[tactic(auto, using(crate::specs::Steps::stands_start))]
     pub fn start(
         file: &'f [u8],
         work: &'w mut [u32],
@@ -205,6 +213,7 @@ impl<'f, 'w, 'd, 'l> State<'f, 'w, 'd, 'l> {
     }
 
     // 01: "the least of its own and those of all groups round it"; the innermost group's entry is the least of all of them.
+    #[tactic(auto, using(crate::specs::Laws::capped_none, crate::specs::Laws::capped_round))]
     fn least_due(&self, due: u32) -> u32
         ensures { result ≡ capped due self.now.level self.now.least.now }
     {
@@ -216,6 +225,7 @@ impl<'f, 'w, 'd, 'l> State<'f, 'w, 'd, 'l> {
     }
 
     // The grammar, a line for each thing that it can want.
+    #[tactic(auto, using(crate::specs::Laws::leave_left, crate::specs::Laws::empty_is, crate::specs::Laws::whole_jobs), unfolding(rules::specs::Orders::step_at, rules::specs::Orders::want, crate::specs::Turns::meant, crate::specs::Turns::turned, crate::specs::Turns::acted, crate::specs::Turns::taken, crate::specs::Turns::half))]
     pub fn decide(&self, token: Token) -> Result<Turn, Refusal>
         ensures { Decides self.now token result }
     {

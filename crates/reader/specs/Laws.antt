@@ -1,5 +1,5 @@
 -- Laws of the moves from place to place, for the proofs to cite.
-use Rattle.std.specs.Prelude.{◌≡◌, refl, Result, Ok, Err, Option, Some, None, List, [], ◌∷◌, ℕ, ◌+◌, ◌≤◌, ◌<◌, length, ltb}
+use Rattle.std.specs.Prelude.{◌≡◌, refl, Result, Ok, Option, List, [], ◌∷◌, ℕ, ◌≤◌, length, ltb}
 use Rattle.std.proofs.Common.{sym, ap, subst, ◌∙◌, inl, inr, arith, ltb-true}
 use Rattle.rules.specs.declared.Token.{Token}
 use Rattle.rules.specs.declared.Wanted.{Wanted}
@@ -14,9 +14,9 @@ use Rattle.lexer.specs.declared.Seen.{Seen}
 use Rattle.grammar.specs.declared.State.{State}
 use Rattle.grammar.specs.declared.Turn.{Turn}
 use Rattle.grammar.specs.declared.Turn.TheVariants.{Done}
-use Rattle.grammar.specs.Turns.{acted, Goes, Holds, Decides, Acts, Lent, Stands, Starts, meant, turned}
+use Rattle.grammar.specs.Turns.{acted, Goes, Holds, Decides, Acts, Lent, Starts, meant, turned}
 use Rattle.grammar.specs.Steps.{pick_all, bracket_all, word_all, number_all, ending_all, goes, moves_on, stands_on, long_lent}
-use Rattle.reader.specs.Ways.{Fits, Ready, Moved, Closes, Onward, Steps}
+use Rattle.reader.specs.Ways.{Fits, Ready, Moved, Onward, Steps}
 
 -- ---- where a step of the definition leads
 abbrev Leads : Wanted → Reading → Step → Type 0

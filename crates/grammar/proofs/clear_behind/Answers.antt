@@ -11,7 +11,7 @@ pub returns : goal.returns
 returns c =
     elim c.match-ended.branch [
       | in-Ok w ↦
-        let q = subst (λ (e : Result Order Fault). Writable e c.args.work.now c.args.due.now) w.in-Ok.is c.requires in
-        answers_accepted _ _ _ _ _ _ c.clear_from.ensures c.clear_from-2.ensures w.in-Ok.order w.in-Ok.is w.kept-is q.0 q.1
+          let q = subst (λ (e : Result Order Fault). Writable e c.args.work.now c.args.due.now) w.in-Ok.is c.requires in
+          answers_accepted _ _ _ _ _ _ c.clear_from.ensures c.clear_from-2.ensures w.in-Ok.order w.in-Ok.is w.kept-is q.0 q.1
       | in-Err w ↦ answers_refused _ _ _ _ _ _ c.clear_from.ensures c.clear_from-2.ensures w.in-Err.field-0 w.in-Err.is w.kept-is
     ]

@@ -1,10 +1,10 @@
 -- The tests come in the definition's order; behind them the outcome of the reading is the answer, and of the buffers only the
 -- lengths count.
-use Rattle.std.proofs.Common.{Err, ap, arith, subst, sym}
+use Rattle.std.proofs.Common.{Err, arith, subst, sym}
 use Rattle.rules.specs.declared.Refusal.TheVariants.{ShortBuffer, LongFile}
 use Rattle.refusals.specs.declared.Fault.{Fault}
 use Rattle.grammar.specs.Turns.{Answers}
-use Rattle.grammar.specs.Ends.{short_buffer, long_file, read_answers, refusal_answers, finished_fits}
+use Rattle.grammar.specs.Ends.{short_buffer, long_file, read_answers, refusal_answers}
 use Rattle.rules.specs.Orders.{read_answer}
 use Rattle.reader.proofs.read_by.Goals as goal
 

@@ -1,6 +1,6 @@
 -- The invariant: the state holds a reading from which the tokens from the place on give the file's outcome. A step that goes on
 -- moves the place forward, and the bytes left are the measure.
-use Rattle.std.proofs.Common.{length, ◌-◌, ◌≡◌}
+use Rattle.std.proofs.Common.{length, ◌-◌}
 use Rattle.grammar.specs.Turns.{Lent}
 use Rattle.reader.specs.Ways.{Ready}
 use Rattle.reader.proofs.InTurnWay.order.Given as goal
