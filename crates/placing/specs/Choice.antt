@@ -2,35 +2,15 @@
 -- one chosen at last; and a test that passes from a chosen room to the room it beats, and from a best room to the rooms that
 -- it keeps out, holds of the last room exactly where it holds of every room.
 use Rattle.std.specs.Prelude.{◌≡◌, refl, Bool, true, false, ◌&&◌, ◌||◌, List, [], ◌∷◌, ◌⊎◌, ℕ, suc, ◌+◌, ◌-◌, ◌≤◌, ◌<◌, ◌^◌, length, get_or, leb, ltb, eqb}
-use Rattle.std.proofs.Common.{sym, ◌∙◌, ap, true≢false, inl, inr, arith, get_or-set_same, get_or-set_other, ltb-true, ltb-false, leb-true, eqb-true, lt-ltb, le-leb, eq-eqb}
-use Rattle.std.proofs.lemmas.Bool.{false≢true, eqb-false}
+use Rattle.std.proofs.Common.{sym, ◌∙◌, ap, inl, inr, arith, get_or-set_same, get_or-set_other, ltb-true, leb-true, eqb-true}
+use Rattle.std.proofs.lemmas.Bool.{eqb-false}
+use Rattle.std.proofs.lemmas.Bool.Decides.{nat_tests}
+use Rattle.std.proofs.Math.Bool.{and-true}
 use Rattle.rules.specs.declared.Spot.{Spot}
 use Rattle.rules.specs.Basics.{All, every}
 use Rattle.rules.specs.Planning.{rooms, scan, none, greatest_up_to, least_above, fill}
-use Rattle.laws.specs.Tests.{pick_yes, pick_no, decided, and_left, and_right, or_left, or_right, or_cases, or_no_left, or_no_right}
+use Rattle.laws.specs.Tests.{pick_yes, pick_no, decided, and_left, and_right}
 use Rattle.placing.specs.Scans.{spot, scan_yes, scan_no, length-rooms, room_at, greater_up_to, less_above}
-
-and_true : (a : Bool) → (a && true) ≡ a
-and_true true = refl
-and_true false = refl
-
-and_drops : (a b c : Bool) → (b ≡ true → a ≡ true) → (b && c) ≡ (a && (b && c))
-and_drops true b c h = refl
-and_drops false true c h = absurd (false≢true (h refl))
-and_drops false false c h = refl
-
-and_adds : (a b c : Bool) → (a ≡ true → b ≡ true) → (a && c) ≡ (a && (b && c))
-and_adds true true c h = refl
-and_adds true false c h = absurd (false≢true (h refl))
-and_adds false b c h = refl
-
-and_first_no : (a b : Bool) → (a && b) ≡ false → b ≡ true → a ≡ false
-and_first_no true b e h = sym h ∙ e
-and_first_no false b e h = refl
-
-and_second_no : (a b : Bool) → (a && b) ≡ false → a ≡ true → b ≡ false
-and_second_no true b e h = e
-and_second_no false b e h = absurd (false≢true h)
 
 -- what each chosen spot has, the last one has
 scan_keeps : (beats : ℕ → ℕ → Bool) (I : Spot → Type 0) (k : ℕ) (best : Spot) (rs : List ℕ) → I best →
@@ -46,13 +26,19 @@ scan_keeps beats I k best (r ∷ rs) h f =
           (λ i b board p l. f (suc i) b board (omega arith) (omega arith)))
     ]
 
+and_drops : (a b c : Bool) → (b ≡ true → a ≡ true) → (b && c) ≡ (a && (b && c))
+and_drops a b c h = grind (arith, nat_tests)
+
+and_adds : (a b c : Bool) → (a ≡ true → b ≡ true) → (a && c) ≡ (a && (b && c))
+and_adds a b c h = grind (arith, nat_tests)
+
 -- a test holds of the last room where it holds of the best before and of every room
 scan_all : (beats : ℕ → ℕ → Bool) (P : ℕ → Bool) (Q : ℕ → Type 0)
     → ((room best : ℕ) → Q room → beats room best ≡ true → P room ≡ true → P best ≡ true)
     → ((room best : ℕ) → Q room → beats room best ≡ false → P best ≡ true → P room ≡ true)
     → (k : ℕ) (best : Spot) (rs : List ℕ) → All Q rs → P (scan beats k best rs).room ≡ (P best.room && every P rs)
 unfolding scan every
-scan_all beats P Q win lose k best [] a = sym (and_true (P best.room))
+scan_all beats P Q win lose k best [] a = sym (and-true (P best.room))
 scan_all beats P Q win lose k best (r ∷ rs) a =
     elim (decided (beats r best.room)) [
       | inl e ↦ ap (λ (s : Spot). P s.room) (scan_yes beats k best r rs e)
@@ -104,70 +90,49 @@ least_bound limit rs = scan_keeps (less_above limit)
     (λ s. (s.room ≡ 0) ⊎ (limit < s.room)) 0 none rs (inl refl)
     (λ i b board p l e. inr (ltb-true _ _ (and_left (ltb limit (get_or rs i 0)) (eqb b 0 || ltb (get_or rs i 0) b) e)))
 
+greater_win : (limit t room best : ℕ) → room ≤ limit → greater_up_to limit room best ≡ true → ltb room t ≡ true →
+    ltb best t ≡ true
+greater_win limit t room best q e p = grind (arith, nat_tests)
+
+greater_lose : (limit t room best : ℕ) → room ≤ limit → greater_up_to limit room best ≡ false → ltb best t ≡ true →
+    ltb room t ≡ true
+greater_lose limit t room best q e p = grind (arith, nat_tests)
+
 -- 2: "If t exceeds every room" asks the greatest room
 pub greatest_below : (limit t : ℕ) (rs : List ℕ) → All (λ r. r ≤ limit) rs →
     ltb (greatest_up_to limit rs).room t ≡ (ltb 0 t && every (λ r. ltb r t) rs)
 unfolding greatest_up_to none
 greatest_below limit t rs a =
     scan_all (greater_up_to limit) (λ r. ltb r t) (λ r. r ≤ limit)
-    (λ room best q e p. lt-ltb best t (omega (
-      arith,
-      ltb-true best room (and_left (ltb best room) (leb room limit) e),
-      ltb-true room t p,
-    )))
-    (λ room best q e p. lt-ltb room t (omega (
-      arith,
-      ltb-false best room
-          (and_first_no (ltb best room) (leb room limit) e (le-leb room limit q)),
-      ltb-true best t p,
-    )))
-    0 none rs a
+    (greater_win limit t) (greater_lose limit t) 0 none rs a
 
 -- 3: "If t is at most every room that isn't 0" asks the least room
 unfoldable pub fits_open : ℕ → ℕ → Bool
 fits_open t r = eqb r 0 || leb t r
 
-least_win : (t room best : ℕ) → (ltb 0 room && (eqb best 0 || ltb room best)) ≡ true → fits_open t room ≡ true →
-    fits_open t best ≡ true
+least_win : (t room best : ℕ) → Unit {0} → less_above 0 room best ≡ true → fits_open t room ≡ true → fits_open t best ≡ true
 unfolding fits_open
-least_win t room best e p =
-    let some : 0 < room = ltb-true 0 room (and_left (ltb 0 room) (eqb best 0 || ltb room best) e) in
-    elim (or_cases (eqb best 0) (ltb room best) (and_right (ltb 0 room) (eqb best 0 || ltb room best) e)) [
-      | inl h ↦ or_left (eqb best 0) (leb t best) h
-      | inr h ↦ elim (or_cases (eqb room 0) (leb t room) p) [
-        | inl z ↦ absurd (omega (arith, eqb-true room 0 z))
-        | inr l ↦ or_right (eqb best 0) (leb t best) (le-leb t best
-            (omega (arith, ltb-true room best h, leb-true t room l)))
-      ]
-    ]
+least_win t room best q e p = grind (arith, nat_tests)
 
-least_lose : (t room best : ℕ) → (ltb 0 room && (eqb best 0 || ltb room best)) ≡ false → fits_open t best ≡ true →
-    fits_open t room ≡ true
+least_lose : (t room best : ℕ) → Unit {0} → less_above 0 room best ≡ false → fits_open t best ≡ true → fits_open t room ≡ true
 unfolding fits_open
-least_lose t room best e p =
-    elim (decided (eqb room 0)) [
-      | inl z ↦ or_left (eqb room 0) (leb t room) z
-      | inr z ↦ or_right (eqb room 0) (leb t room) (le-leb t room (enough z))
-    ]
-  where
-    enough : eqb room 0 ≡ false → t ≤ room
-    enough z =
-        let lost : (eqb best 0 || ltb room best) ≡ false = and_second_no (ltb 0 room) (eqb best 0 || ltb room best) e
-        (lt-ltb 0 room (omega (arith, eqb-false room 0 z))) in
-        elim (or_cases (eqb best 0) (leb t best) p) [
-          | inl h ↦ absurd (true≢false (sym h ∙ or_no_left (eqb best 0) (ltb room best) lost))
-          | inr l ↦ omega (arith, leb-true t best l, ltb-false room best (or_no_right (eqb best 0) (ltb room best) lost))
-        ]
+least_lose t room best q e p = grind (arith, nat_tests)
 
 pub least_fits : (t : ℕ) (rs : List ℕ) → fits_open t (least_above 0 rs).room ≡ every (λ r. eqb r 0 || leb t r) rs
 unfolding least_above none fits_open
 least_fits t rs =
     scan_all (less_above 0) (fits_open t) (λ r. Unit {0})
-    (λ room best q. least_win t room best) (λ room best q. least_lose t room best) 0 none rs (all_unit rs)
+    (least_win t) (least_lose t) 0 none rs (all_unit rs)
   where
     all_unit : (rs : List ℕ) → All (λ r. Unit {0}) rs
     all_unit [] = tt
     all_unit (r ∷ rs) = (tt, all_unit rs)
+
+not_chosen : (limit room best : ℕ) → less_above limit room best ≡ true → room ≡ 0 → ⊥
+not_chosen limit room best e z = grind (arith, nat_tests)
+
+not_above : (limit room best : ℕ) → less_above limit room best ≡ false → best ≡ 0 → room ≤ limit
+not_above limit room best e z = grind (arith, nat_tests)
 
 -- where no room is above the limit, none is found
 scan_least_none : (limit k : ℕ) (best : Spot) (rs : List ℕ) → (scan (less_above limit) k best rs).room ≡ 0 →
@@ -176,23 +141,11 @@ unfolding scan
 scan_least_none limit k best [] e = (e, tt)
 scan_least_none limit k best (r ∷ rs) e =
     elim (decided (less_above limit r best.room)) [
-      | inl h ↦ absurd (chosen h (scan_least_none limit (suc k) (spot k r) rs
+      | inl h ↦ absurd (not_chosen limit r best.room h (scan_least_none limit (suc k) (spot k r) rs
           (sym (ap (λ (s : Spot). s.room) (scan_yes (less_above limit) k best r rs h)) ∙ e)).0)
       | inr h ↦ let (z, a) = scan_least_none limit (suc k) best rs
-          (sym (ap (λ (s : Spot). s.room) (scan_no (less_above limit) k best r rs h)) ∙ e) in (z, (kept h z, a))
+          (sym (ap (λ (s : Spot). s.room) (scan_no (less_above limit) k best r rs h)) ∙ e) in (z, (not_above limit r best.room h z, a))
     ]
-  where
-    chosen : less_above limit r best.room ≡ true → r ≡ 0 → ⊥
-    chosen h z = omega (arith, ltb-true limit r (and_left (ltb limit r) (eqb best.room 0 || ltb r best.room) h))
-
-    kept : less_above limit r best.room ≡ false → best.room ≡ 0 → r ≤ limit
-    kept h z =
-        elim (decided (ltb limit r)) [
-          | inr l ↦ ltb-false limit r l
-          | inl l ↦ absurd (true≢false (sym (eq-eqb best.room 0 z)
-              ∙ or_no_left (eqb best.room 0) (ltb r best.room)
-              (and_second_no (ltb limit r) (eqb best.room 0 || ltb r best.room) h l)))
-        ]
 
 pub least_none : (limit : ℕ) (rs : List ℕ) → (least_above limit rs).room ≡ 0 → All (λ r. r ≤ limit) rs
 unfolding least_above

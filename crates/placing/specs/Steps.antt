@@ -1,5 +1,5 @@
 -- The steps by the tests that the code makes: each test of 01 over every room is one of the greatest or of the least room.
-use Rattle.std.specs.Prelude.{◌≡◌, Bool, false, ◌&&◌, List, [], ◌∷◌, ℕ, zero, suc, ◌-◌, ◌≤◌, ◌<◌, length, leb, eqb, true, ltb}
+use Rattle.std.specs.Prelude.{◌≡◌, Bool, false, ◌&&◌, List, [], ◌∷◌, ℕ, zero, suc, ◌-◌, ◌≤◌, ◌<◌, length, true, ltb}
 use Rattle.std.proofs.Common.{sym, ◌∙◌, ap, inl, inr, arith, ltb-true, ltb-false, lt-ltb, le-ltb, le-leb, eq-eqb, ne_eqb}
 use Rattle.std.proofs.lemmas.Bool.{lt-leb}
 use Rattle.rules.specs.Basics.{All, every}
@@ -41,8 +41,7 @@ module _ (free : List ℕ) (j : Job) where
   unfolding place_last
   last_one h = pick_no _ _ _ (le-ltb _ _ h)
 
-  pub other_cannot : 0 < length free → (greatest_up_to j.due (rooms j.due free)).room < j.work →
-      place_other free j ≡ cannot
+  pub other_cannot : 0 < length free → (greatest_up_to j.due (rooms j.due free)).room < j.work → place_other free j ≡ cannot
   unfolding place_other
   other_cannot some h = pick_yes _ _ _ (below_every j.work j.due free some ∙ lt-ltb _ _ h)
 
@@ -59,20 +58,20 @@ module _ (free : List ℕ) (j : Job) where
           omega (
             arith,
             ltb-true (greatest_up_to j.due (rooms j.due free)).room j.work
-                (greatest_below j.due j.work (rooms j.due free) (rooms_up_to_due j.due free) ∙ and_yes _ _ (lt-ltb 0 j.work (omega arith)) a),
+                (greatest_below j.due j.work (rooms j.due free) (rooms_up_to_due j.due free)
+                ∙ and_yes _ _ (lt-ltb 0 j.work (omega arith)) a),
           )
 
-  pub other_one : 0 < length free → j.work ≤ (greatest_up_to j.due (rooms j.due free)).room → j.work ≤ (least_above 0 (rooms j.due free)).room →
+  pub other_one : 0 < length free → j.work ≤ (greatest_up_to j.due (rooms j.due free)).room →
+      j.work ≤ (least_above 0 (rooms j.due free)).room →
       place_other free j ≡ one_row free j (least_above 0 (rooms j.due free)).board
   unfolding place_other fits_open
   other_one some p q =
       pick_no _ _ _ (below_every j.work j.due free some ∙ le-ltb _ _ p)
-      ∙ pick_yes _ _ _ (sym (least_fits j.work (rooms j.due free))
-      ∙ or_right (eqb (least_above 0 (rooms j.due free)).room 0) (leb j.work (least_above 0 (rooms j.due free)).room)
-      (le-leb j.work (least_above 0 (rooms j.due free)).room q))
+      ∙ pick_yes _ _ _ (sym (least_fits j.work (rooms j.due free)) ∙ or_right _ _ (le-leb j.work _ q))
 
-  pub other_two : 0 < length free → j.work ≤ (greatest_up_to j.due (rooms j.due free)).room → (least_above 0 (rooms j.due free)).room < j.work →
-      place_other free j ≡ split_over free j
+  pub other_two : 0 < length free → j.work ≤ (greatest_up_to j.due (rooms j.due free)).room →
+      (least_above 0 (rooms j.due free)).room < j.work → place_other free j ≡ split_over free j
   unfolding place_other split_over
   other_two some p q =
       pick_no _ _ _ (below_every j.work j.due free some ∙ le-ltb _ _ p)

@@ -1,5 +1,5 @@
-// The planner: a table of rows for boards, works and dues, or a refusal. Its answer is that of the definition, plan_answer, for
-// all inputs: the numbers and the whole later table.
+// The planner: a table of rows for boards, works and dues, or a refusal. Its answer is that of the definition, plan_answer,
+// for all inputs: the numbers and the whole later table.
 // The idea: the loop over the jobs keeps that placing the jobs left, behind the rows so far, gives what placing all of them
 // gives, and that the table begins with the rows so far. What stands behind the rows is cleared once, at the end.
 #![tactic(auto)]
@@ -43,7 +43,7 @@ fn place_jobs(records: &[u64], free: &mut [u32], table: &mut [u32]) -> Result<u3
         return Ok(0);
     };
     let mut rows: usize = 0;
-    // Not `ok_or(no_plan(job))?`: a `Result` made and taken apart at each job costs 10 ns a job, a sixth of a day of 2 boards.
+    // Not `ok_or(no_plan(job))?`: a `Result` made and taken apart costs 10 ns a job, a sixth of the time on 2 boards.
     for record in others {
         let job = ordering::job_in(*record);
         let Some(added) = place_other(job, free, &mut table[4 * rows..]) else {
