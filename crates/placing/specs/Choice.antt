@@ -131,8 +131,8 @@ least_fits t rs =
 not_chosen : (limit room best : ℕ) → less_above limit room best ≡ true → room ≡ 0 → ⊥
 not_chosen limit room best e z = grind (arith, nat_tests)
 
-not_above : (limit room best : ℕ) → less_above limit room best ≡ false → best ≡ 0 → room ≤ limit
-not_above limit room best e z = grind (arith, nat_tests)
+none_above : (limit room best : ℕ) → less_above limit room best ≡ false → best ≡ 0 → room ≤ limit
+none_above limit room best e z = grind (arith, nat_tests)
 
 -- where no room is above the limit, none is found
 scan_least_none : (limit k : ℕ) (best : Spot) (rs : List ℕ) → (scan (less_above limit) k best rs).room ≡ 0 →
@@ -144,7 +144,7 @@ scan_least_none limit k best (r ∷ rs) e =
       | inl h ↦ absurd (not_chosen limit r best.room h (scan_least_none limit (suc k) (spot k r) rs
           (sym (ap (λ (s : Spot). s.room) (scan_yes (less_above limit) k best r rs h)) ∙ e)).0)
       | inr h ↦ let (z, a) = scan_least_none limit (suc k) best rs
-          (sym (ap (λ (s : Spot). s.room) (scan_no (less_above limit) k best r rs h)) ∙ e) in (z, (not_above limit r best.room h z, a))
+          (sym (ap (λ (s : Spot). s.room) (scan_no (less_above limit) k best r rs h)) ∙ e) in (z, (none_above limit r best.room h z, a))
     ]
 
 pub least_none : (limit : ℕ) (rs : List ℕ) → (least_above limit rs).room ≡ 0 → All (λ r. r ≤ limit) rs
