@@ -265,7 +265,15 @@ def written(name, text, shapes):
             raise Bad(f"{name}: a function is used as a value")
     if mentioned != called:
         raise Bad(f"{name}: a function is used as a value")
-    return Function(name, [kind_of(each[1]) for each in elements(locals_)], calls, 0, 0)
+    locals_ = [kind_of(each[1]) for each in elements(locals_)]
+    return Function(name, locals_, calls, left_open("Param", (locals_, calls)), left_open("Given", calls))
+
+
+def left_open(form, tree):
+    """How many choices a function leaves to its callers, as far as it uses them."""
+    if isinstance(tree, tuple) and tree[:1] == (form,):
+        return tree[1] + 1
+    return max((left_open(form, each) for each in tree), default=0) if isinstance(tree, (tuple, list)) else 0
 
 
 Crate = collections.namedtuple("Crate", "folder libraries is_library")
