@@ -10,7 +10,7 @@ ghost use Rattle.lines.specs.Fields.{row_line, planned};
 ghost use Rattle.rules.specs.Plans.{first_row, rows_of};
 ghost use Rattle.rules.specs.Listings.{decimal, fields, row_lines, refused_line};
 
-// The power of ten of a number's first digit.
+// The power of ten of a number's first digit. No index is counted here and in `decimal`: the power grows, and falls.
 fn lead(n: u32) -> u32
     ensures { IsLead n result }
 {
@@ -117,8 +117,8 @@ pub fn put_refusal(b: &mut [u8], refusal: u32, place: u32) -> usize
     page.end
 }
 
-// "First line: `plan`, boards, jobs, rows, preemptions ... Then the rows." The count of rows stands beside the table: this
-// contract may not change, since crate listing calls it.
+// "First line: `plan`, boards, jobs, rows, preemptions ... Then the rows." The count stands beside the table, as the planner gives
+// them: a table is as long as it was lent, and C has them so.
 pub fn put_plan(b: &mut [u8], first: [u32; 4], table: &[u32], count: usize) -> usize
     requires { (count ≤ 2000) × (4 * count ≤ length table.now) × (100 + 44 * count ≤ length b.old) }
     ensures { Put b.old 0 (planned first (rows_of count table.now)) b.new result }

@@ -38,7 +38,7 @@ fn list_order(file: &[u8], lines: &mut [u8]) -> Result<usize, Fault>
 }
 
 // The listing of an order file, put at the front of a buffer of at least 90,000 bytes; a shorter one is left as it is, and
-// the answer is 0. The answer is the listing's length.
+// the answer is 0 (this contract's `listed_length` says so). The answer is the listing's length.
 pub fn list(file: &[u8], lines: &mut [u8]) -> usize
     ensures said { result ≡ listed_length file.now lines.old }
     ensures later { lines.new ≡ listed_lines file.now lines.old }

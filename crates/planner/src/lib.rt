@@ -105,7 +105,7 @@ fn test_day(boards: u32, work: &[u32], due: &[u32], table: &[u32]) -> Result<(),
     }
 }
 
-// The number of rows, or why there are none: 9 comes last.
+// The number of rows, or why there are none: 9 comes last. Works and dues are two lists, as C lends them.
 pub fn plan_rows(boards: u32, work: &[u32], due: &[u32], table: &mut [u32]) -> Result<u32, Fault>
     ensures said { planned_of result ≡ (plan_answer boards work.now due.now table.old).said }
     ensures later { table.new ≡ (plan_answer boards work.now due.now table.old).table }

@@ -104,16 +104,17 @@ pub struct TableRow {
     pub to: u32,
 }
 
-// A board, counted from 0, with its room; room 0 says that there is none.
+// A board, counted from 0, with its room; room 0 says that there is none, as the definitions of placing do.
 #[derive(Clone, Copy)]
 pub struct Spot {
     pub board: usize,
     pub room: u32,
 }
 
-// What the order reader answers, beside the two lists.
+// What C is given of each call: structs of numbers, the refusal's number and place in front (C's interface has no other form).
+// Inside, answers are Results. This one is the order reader's, beside the two lists.
 #[repr(C)]
-#[derive(Drop)]
+#[derive(Clone, Copy)]
 pub struct OrderRead {
     pub refusal: u32,
     pub place: u32,
@@ -123,7 +124,7 @@ pub struct OrderRead {
 
 // What the planner answers, beside the table.
 #[repr(C)]
-#[derive(Drop)]
+#[derive(Clone, Copy)]
 pub struct Planned {
     pub refusal: u32,
     pub place: u32,
@@ -132,7 +133,7 @@ pub struct Planned {
 
 // What the checker answers; yes is 1, no is 0.
 #[repr(C)]
-#[derive(Drop)]
+#[derive(Clone, Copy)]
 pub struct Checked {
     pub refusal: u32,
     pub place: u32,
@@ -142,7 +143,7 @@ pub struct Checked {
 
 // What the plan-file reader answers: the part of the file that holds the rows.
 #[repr(C)]
-#[derive(Drop)]
+#[derive(Clone, Copy)]
 pub struct RowPart {
     pub refusal: u32,
     pub place: u32,
@@ -152,7 +153,7 @@ pub struct RowPart {
 
 // What the plan-file writer answers, beside the buffer.
 #[repr(C)]
-#[derive(Drop)]
+#[derive(Clone, Copy)]
 pub struct Written {
     pub refusal: u32,
     pub place: u32,
