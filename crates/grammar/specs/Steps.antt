@@ -16,6 +16,7 @@ use Rattle.rules.specs.Orders.{Reading, Step, go, stop, done, Outcome, accepted,
 use Rattle.laws.specs.Tests.{decided}
 use Rattle.lexer.specs.Scan.{tokens_at, is_last, behind, NextToken}
 use Rattle.lexer.specs.declared.Seen.{Seen}
+use Rattle.grammar.specs.declared.Stop.{Stop}
 use Rattle.grammar.specs.declared.State.{State}
 use Rattle.grammar.specs.declared.Turn.{Turn}
 use Rattle.grammar.specs.declared.Turn.TheVariants.{Want, Take, Leave, Done}
@@ -283,31 +284,36 @@ module _ (s : State) (c : Stands s) where
       let f : fullest c.reading.wanted ≤ 1000 = fullest_most c.reading.wanted in
       record { few_levels = omega (arith, c.sound.levels, c.holds.as_level); few_jobs = omega (arith, c.sound.jobs, c.sound.pairs, c.holds.as_jobs) }
 
-  module _ (seen : Seen) (n : NextToken s.file.now s.at seen) (decided : Result Turn Refusal) (d : Decides s seen.token decided) where
+  module _ (seen : Seen) (n : NextToken s.file.now s.at seen) (decided : Result Turn Stop) (d : Decides s seen.token seen.place decided) where
     -- the definition's step at the token seen
-    step_is : step_at c.reading.wanted c.reading seen.token seen.place ≡ meant c.reading seen.place decided
-    step_is = d c.reading seen.place c.sound c.holds.as_wanted c.holds.as_level c.holds.as_jobs
+    step_is : step_at c.reading.wanted c.reading seen.token seen.place ≡ meant c.reading decided
+    step_is = d c.reading c.sound c.holds.as_wanted c.holds.as_level c.holds.as_jobs
 
-    outcome_is : (st : Step) → meant c.reading seen.place decided ≡ st → after c.reading st (λ next. reads next (behind seen.token (tokens_at s.file.now seen.next))) ≡ order_of s.file.now
+    outcome_is : (st : Step) → meant c.reading decided ≡ st → after c.reading st (λ next. reads next (behind seen.token (tokens_at s.file.now seen.next))) ≡ order_of s.file.now
     outcome_is st e =
         ap (λ (x : Step). after c.reading x (λ next. reads next (behind seen.token (tokens_at s.file.now seen.next)))) (sym (step_is ∙ e))
         ∙ sym (reads_first s.file.now s.at seen c.reading n)
         ∙ c.same
 
-    follows_is : (st : Step) → meant c.reading seen.place decided ≡ st → Follows c.reading seen.place st
+    follows_is : (st : Step) → meant c.reading decided ≡ st → Follows c.reading seen.place st
     follows_is st e = subst (Follows c.reading seen.place) (step_is ∙ e) (follows c.reading seen.token seen.place c.sound)
 
-    pub stands_stop : (refusal : Refusal) (work' due' : List ℕ) → decided ≡ Err refusal → Finished s.file.now (Err (record { refusal = refusal; place = seen.place })) work' due'
+    -- a refusal's place is the token's
+    pub stop_place : (halt : Stop) → decided ≡ Err halt → halt.place ≡ seen.place
+    unfolding meant
+    stop_place halt e = follows_is (stop halt.refusal halt.place) (ap (meant c.reading) e)
+
+    pub stands_stop : (halt : Stop) (work' due' : List ℕ) → decided ≡ Err halt → Finished s.file.now (Err (record { refusal = halt.refusal; place = halt.place })) work' due'
     unfolding meant after
-    stands_stop refusal work' due' e =
-        (sym (outcome_is (stop refusal seen.place) (ap (meant c.reading seen.place) e)), (n.inside c.inside).0)
+    stands_stop halt work' due' e =
+        (sym (outcome_is (stop halt.refusal halt.place) (ap (meant c.reading) e)), omega (arith, stop_place halt e, (n.inside c.inside).0))
 
     pub stands_done : decided ≡ Ok Done → Finished s.file.now (Ok (record { boards = s.boards; jobs = s.jobs })) s.work.now s.due.now
     unfolding turned meant after
     stands_done e =
-        let w : half c.reading.wanted ≡ 0 = follows_is done (ap (meant c.reading seen.place) e) in
+        let w : half c.reading.wanted ≡ 0 = follows_is done (ap (meant c.reading) e) in
         let m : length c.reading.works ≡ s.jobs = omega (arith, w, c.sound.pairs, c.holds.as_jobs) in (
-          sym (outcome_is done (ap (meant c.reading seen.place) e))
+          sym (outcome_is done (ap (meant c.reading) e))
               ∙ ap (λ (b : ℕ). accepted b c.reading.works c.reading.dues) c.holds.as_boards
               ∙ ap (λ (x : List ℕ). accepted s.boards x c.reading.dues) (sym c.holds.front_works ∙ ap (λ (k : ℕ). take k s.work.now) m)
               ∙ ap (λ (x : List ℕ). accepted s.boards (take s.jobs s.work.now) x) (sym c.holds.front_dues ∙ ap (λ (k : ℕ). take k s.due.now) c.holds.as_jobs),
@@ -315,9 +321,9 @@ module _ (s : State) (c : Stands s) where
         )
 
     module _ (act : Turn) (e : decided ≡ Ok act) (g : Goes act) where
-      on_is : meant c.reading seen.place decided ≡ go (acted c.reading act)
+      on_is : meant c.reading decided ≡ go (acted c.reading act)
       unfolding meant
-      on_is = ap (meant c.reading seen.place) e ∙ goes_turned c.reading act g
+      on_is = ap (meant c.reading) e ∙ goes_turned c.reading act g
 
       pub goes : step_at c.reading.wanted c.reading seen.token seen.place ≡ go (acted c.reading act)
       goes = step_is ∙ on_is

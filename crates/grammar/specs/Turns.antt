@@ -15,6 +15,7 @@ use Rattle.lexer.specs.Scan.{tokens_at}
 use Rattle.grammar.specs.declared.State.{State}
 use Rattle.grammar.specs.declared.Turn.{Turn}
 use Rattle.grammar.specs.declared.Turn.TheVariants.{Want, Take, Leave, Done}
+use Rattle.grammar.specs.declared.Stop.{Stop}
 use Rattle.grammar.specs.declared.Order.{Order}
 
 unfoldable pub misplaced_as : Token → Refusal
@@ -54,10 +55,10 @@ turned r (Take n) = go (acted r (Take n))
 turned r Leave = go (acted r Leave)
 turned r Done = done
 
--- what is decided of a token at the place p
-unfoldable pub meant : Reading → ℕ → Result Turn Refusal → Step
-meant r p (Ok turn) = turned r turn
-meant r p (Err refusal) = stop refusal p
+-- what is decided of a token
+unfoldable pub meant : Reading → Result Turn Stop → Step
+meant r (Ok turn) = turned r turn
+meant r (Err halt) = stop halt.refusal halt.place
 
 -- a turn that does not end the reading
 abbrev pub Goes : Turn → Type 0
@@ -131,9 +132,9 @@ pub record Sound (r : Reading) : Type 0 where
   pub pairs : length r.works ≡ length r.dues + half r.wanted
 
 -- ---- what the functions say
--- What is decided is the definition's step, for each reading that the state stands for and each place.
-abbrev pub Decides : State → Token → Result Turn Refusal → Type 0
-Decides s t decided = (r : Reading) (p : ℕ) → Sound r → r.wanted ≡ s.wanted → length r.groups ≡ s.level → length r.dues ≡ s.jobs → step_at r.wanted r t p ≡ meant r p decided
+-- What is decided is the definition's step, for each reading that the state stands for.
+abbrev pub Decides : State → Token → ℕ → Result Turn Stop → Type 0
+Decides s t p decided = (r : Reading) → Sound r → r.wanted ≡ s.wanted → length r.groups ≡ s.level → length r.dues ≡ s.jobs → step_at r.wanted r t p ≡ meant r decided
 
 -- the lists are long enough
 pub record Long (s : State) : Type 0 where

@@ -52,6 +52,13 @@ pub enum Turn {
     Done,
 }
 
+// Why the reading stops, and at which byte.
+#[derive(Clone, Copy)]
+pub struct Stop {
+    pub refusal: Refusal,
+    pub place: usize,
+}
+
 // Where the reader stands in the file, and what it holds. Each loan has a lifetime of its own, so that a proof knows what each
 // list ends as. The list of the least dues is lent too: as an array in here it made the reader a quarter slower.
 #[derive(Drop)]
@@ -79,109 +86,127 @@ fn put(list: &mut [u32], at: usize, value: u32)
 
 // A token where another is wanted: 3 at the end, 1 at a foreign byte, 2 otherwise.
 #[tactic(auto, unfolding(crate::specs::Turns::misplaced_as))]
-fn misplaced(token: Token) -> Refusal
-    ensures { result ≡ misplaced_as token }
+fn misplaced(token: Token, place: usize) -> Stop
+    ensures { result ≡ record { refusal = misplaced_as token; place = place } }
 {
-    match token {
+    let refusal = match token {
         Token::Open => Refusal::NotAllowed,
         Token::Close => Refusal::NotAllowed,
         Token::Atom(_) => Refusal::NotAllowed,
         Token::End => Refusal::Unclosed,
         Token::Foreign => Refusal::ForeignByte,
-    }
+    };
+    Stop { refusal, place }
 }
 
 #[tactic(auto, using(crate::specs::Laws::bracket_misplaced), unfolding(rules::specs::Orders::bracket, crate::specs::Turns::meant))]
 fn bracket_wanted(
     token: Token,
-    opens: Result<Turn, Refusal>,
-    closes: Result<Turn, Refusal>,
-) -> Result<Turn, Refusal>
-    ensures { (r : Reading) (p : ℕ) → meant r p result ≡ bracket token p (meant r p opens) (meant r p closes) }
+    place: usize,
+    opens: Result<Turn, Stop>,
+    closes: Result<Turn, Stop>,
+) -> Result<Turn, Stop>
+    ensures { (r : Reading) → meant r result ≡ bracket token place (meant r opens) (meant r closes) }
 {
     match token {
         Token::Open => opens,
         Token::Close => closes,
-        _ => Err(misplaced(token)),
+        _ => Err(misplaced(token, place)),
     }
 }
 
 #[tactic(auto, using(crate::specs::Laws::word_misplaced), unfolding(rules::specs::Orders::word, rules::specs::Orders::atom_word, crate::specs::Turns::meant))]
 fn word_wanted(
     token: Token,
-    order: Result<Turn, Refusal>,
-    group: Result<Turn, Refusal>,
-    job: Result<Turn, Refusal>,
-) -> Result<Turn, Refusal>
-    ensures { (r : Reading) (p : ℕ) → meant r p result ≡ word token p (meant r p order) (meant r p group) (meant r p job) }
+    place: usize,
+    order: Result<Turn, Stop>,
+    group: Result<Turn, Stop>,
+    job: Result<Turn, Stop>,
+) -> Result<Turn, Stop>
+    ensures { (r : Reading) → meant r result ≡ word token place (meant r order) (meant r group) (meant r job) }
 {
     let Token::Atom(name) = token else {
-        return Err(misplaced(token));
+        return Err(misplaced(token, place));
     };
     match name {
         Word::Order => order,
         Word::Group => group,
         Word::Job => job,
-        _ => Err(misplaced(token)),
+        _ => Err(misplaced(token, place)),
     }
 }
 
 // 01: "is refused where the grammar wants a number": 4 for an atom that is none, 2 for a bracket, 5 above the limit.
 #[tactic(auto, using(crate::specs::Laws::number_misplaced, crate::specs::Laws::number_none), unfolding(crate::specs::Turns::meant))]
-fn number_wanted(token: Token, limit: u32) -> Result<Turn, Refusal>
-    ensures { (r : Reading) (p : ℕ) → meant r p result ≡ number limit token p (λ n. go (acted r (Turn.Take n))) }
+fn number_wanted(token: Token, place: usize, limit: u32) -> Result<Turn, Stop>
+    ensures { (r : Reading) → meant r result ≡ number limit token place (λ n. go (acted r (Turn.Take n))) }
 {
     let Token::Atom(name) = token else {
-        return Err(misplaced(token));
+        return Err(misplaced(token, place));
     };
     let Word::Number(n) = name else {
-        return Err(Refusal::NoNumber);
+        return Err(Stop {
+            refusal: Refusal::NoNumber,
+            place,
+        });
     };
     if limit < n {
-        return Err(Refusal::AboveLimit);
+        return Err(Stop {
+            refusal: Refusal::AboveLimit,
+            place,
+        });
     }
     Ok(Turn::Take(n))
 }
 
 #[tactic(auto, using(crate::specs::Laws::ending_misplaced), unfolding(rules::specs::Orders::ending, crate::specs::Turns::meant))]
-fn end_wanted(token: Token, ends: Result<Turn, Refusal>) -> Result<Turn, Refusal>
-    ensures { (r : Reading) (p : ℕ) → meant r p result ≡ ending token p (meant r p ends) }
+fn end_wanted(token: Token, place: usize, ends: Result<Turn, Stop>) -> Result<Turn, Stop>
+    ensures { (r : Reading) → meant r result ≡ ending token place (meant r ends) }
 {
     match token {
         Token::End => ends,
-        other => Err(misplaced(other)),
+        other => Err(misplaced(other, place)),
     }
 }
 
 // 01: 6, "a group at level 33".
 #[tactic(auto, unfolding(rules::specs::Orders::want, crate::specs::Turns::meant, crate::specs::Turns::turned, crate::specs::Turns::acted))]
-fn group_begins(level: usize) -> Result<Turn, Refusal>
-    ensures { (r : Reading) (p : ℕ) → meant r p result ≡ pick (ltb level most_levels) (want r Wanted.GroupDue) (stop Refusal.TooDeep p) }
+fn group_begins(level: usize, place: usize) -> Result<Turn, Stop>
+    ensures { (r : Reading) → meant r result ≡ pick (ltb level most_levels) (want r Wanted.GroupDue) (stop Refusal.TooDeep place) }
 {
     if level < MOST_LEVELS {
         return Ok(Turn::Want(Wanted::GroupDue));
     }
-    Err(Refusal::TooDeep)
+    Err(Stop {
+        refusal: Refusal::TooDeep,
+        place,
+    })
 }
 
 // 01: 7, "a 1,001st job".
 #[tactic(auto, unfolding(rules::specs::Orders::want, crate::specs::Turns::meant, crate::specs::Turns::turned, crate::specs::Turns::acted))]
-fn job_begins(jobs: usize) -> Result<Turn, Refusal>
-    ensures { (r : Reading) (p : ℕ) → meant r p result ≡ pick (ltb jobs most_jobs) (want r Wanted.JobWork) (stop Refusal.TooManyJobs p) }
+fn job_begins(jobs: usize, place: usize) -> Result<Turn, Stop>
+    ensures { (r : Reading) → meant r result ≡ pick (ltb jobs most_jobs) (want r Wanted.JobWork) (stop Refusal.TooManyJobs place) }
 {
     if jobs < MOST_JOBS {
         return Ok(Turn::Want(Wanted::JobWork));
     }
-    Err(Refusal::TooManyJobs)
+    Err(Stop {
+        refusal: Refusal::TooManyJobs,
+        place,
+    })
 }
 
 // 01: 8, "a well-formed order without a job".
 #[tactic(auto, unfolding(crate::specs::Turns::meant, crate::specs::Turns::turned))]
-fn order_ends(jobs: usize) -> Result<Turn, Refusal>
-    ensures { (r : Reading) (p : ℕ) → meant r p result ≡ pick (eqb jobs 0) (stop Refusal.NoJob p) done }
+fn order_ends(jobs: usize, place: usize) -> Result<Turn, Stop>
+    ensures { (r : Reading) → meant r result ≡ pick (eqb jobs 0) (stop Refusal.NoJob place) done }
 {
     if jobs == 0 {
-        return Err(Refusal::NoJob);
+        return Err(Stop {
+            refusal: Refusal::NoJob,
+            place,
+        });
     }
     Ok(Turn::Done)
 }
@@ -226,25 +251,49 @@ impl<'f, 'w, 'd, 'l> State<'f, 'w, 'd, 'l> {
 
     // The grammar, a line for each thing that it can want.
     #[tactic(auto, using(crate::specs::Laws::leave_left, crate::specs::Laws::empty_is, crate::specs::Laws::whole_jobs), unfolding(rules::specs::Orders::step_at, rules::specs::Orders::want, crate::specs::Turns::meant, crate::specs::Turns::turned, crate::specs::Turns::acted, crate::specs::Turns::taken, crate::specs::Turns::half))]
-    pub fn decide(&self, token: Token) -> Result<Turn, Refusal>
-        ensures { Decides self.now token result }
+    pub fn decide(&self, token: Token, place: usize) -> Result<Turn, Stop>
+        ensures { Decides self.now token place result }
     {
-        let no = Err(Refusal::NotAllowed);
+        let no = Err(Stop {
+            refusal: Refusal::NotAllowed,
+            place,
+        });
         match self.wanted {
-            Wanted::OrderOpen => bracket_wanted(token, Ok(Turn::Want(Wanted::OrderWord)), no),
-            Wanted::OrderWord => word_wanted(token, Ok(Turn::Want(Wanted::Boards)), no, no),
-            Wanted::Boards => number_wanted(token, 64),
+            Wanted::OrderOpen => bracket_wanted(
+                token,
+                place,
+                Ok(Turn::Want(Wanted::OrderWord)),
+                no,
+            ),
+            Wanted::OrderWord => word_wanted(token, place, Ok(Turn::Want(Wanted::Boards)), no, no),
+            Wanted::Boards => number_wanted(token, place, 64),
             Wanted::ItemOrClose => {
-                bracket_wanted(token, Ok(Turn::Want(Wanted::ItemWord)), Ok(Turn::Leave))
+                bracket_wanted(
+                    token,
+                    place,
+                    Ok(Turn::Want(Wanted::ItemWord)),
+                    Ok(Turn::Leave),
+                )
             }
             Wanted::ItemWord => {
-                word_wanted(token, no, group_begins(self.level), job_begins(self.jobs))
+                word_wanted(
+                    token,
+                    place,
+                    no,
+                    group_begins(self.level, place),
+                    job_begins(self.jobs, place),
+                )
             }
-            Wanted::GroupDue => number_wanted(token, 1000000),
-            Wanted::JobWork => number_wanted(token, 1000000),
-            Wanted::JobDue => number_wanted(token, 1000000),
-            Wanted::JobClose => bracket_wanted(token, no, Ok(Turn::Want(Wanted::ItemOrClose))),
-            Wanted::Finish => end_wanted(token, order_ends(self.jobs)),
+            Wanted::GroupDue => number_wanted(token, place, 1000000),
+            Wanted::JobWork => number_wanted(token, place, 1000000),
+            Wanted::JobDue => number_wanted(token, place, 1000000),
+            Wanted::JobClose => bracket_wanted(
+                token,
+                place,
+                no,
+                Ok(Turn::Want(Wanted::ItemOrClose)),
+            ),
+            Wanted::Finish => end_wanted(token, place, order_ends(self.jobs, place)),
         }
     }
 

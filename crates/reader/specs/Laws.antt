@@ -4,13 +4,13 @@ use Rattle.std.proofs.Common.{sym, ap, subst, ◌∙◌, inl, inr, arith, ltb-tr
 use Rattle.rules.specs.declared.Token.{Token}
 use Rattle.rules.specs.declared.Wanted.{Wanted}
 use Rattle.rules.specs.declared.Wanted.TheVariants.{OrderOpen, OrderWord, Boards, ItemOrClose, ItemWord, GroupDue, JobWork, JobDue, JobClose, Finish}
-use Rattle.rules.specs.declared.Refusal.{Refusal}
 use Rattle.refusals.specs.declared.Fault.{Fault}
 use Rattle.grammar.specs.declared.Order.{Order}
 use Rattle.rules.specs.Basics.{is_empty, most_boards, most_minutes, most_jobs, most_levels}
 use Rattle.rules.specs.Orders.{Reading, Step, go, stop, done, leave, want, step_at}
 use Rattle.lexer.specs.Scan.{NextToken}
 use Rattle.lexer.specs.declared.Seen.{Seen}
+use Rattle.grammar.specs.declared.Stop.{Stop}
 use Rattle.grammar.specs.declared.State.{State}
 use Rattle.grammar.specs.declared.Turn.{Turn}
 use Rattle.grammar.specs.declared.Turn.TheVariants.{Done}
@@ -76,13 +76,13 @@ whole JobDue r t p = number_all (Whole JobDue) p (λ q. tt) most_minutes t _ (λ
 whole JobClose r t p = bracket_all (Whole JobClose) p (λ q. tt) t _ _ tt tt
 whole Finish r t p = ending_all (Whole Finish) p (λ q. tt) t _ (pick_all (Whole Finish) (is_empty r.works) _ _ (λ y. tt) (λ n. refl))
 
-module _ (s : State) (c : Ready s) (seen : Seen) (n : NextToken s.file.now s.at seen) (decided : Result Turn Refusal) (d : Decides s seen.token decided) where
+module _ (s : State) (c : Ready s) (seen : Seen) (n : NextToken s.file.now s.at seen) (decided : Result Turn Stop) (d : Decides s seen.token seen.place decided) where
   pub whole_at : decided ≡ Ok Done → s.wanted ≡ Finish
   unfolding turned meant
   whole_at e =
       let r : Reading = c.stands.reading in
-      let m : step_at r.wanted r seen.token seen.place ≡ meant r seen.place decided = d r seen.place c.stands.sound c.stands.holds.as_wanted c.stands.holds.as_level c.stands.holds.as_jobs in
-      sym c.stands.holds.as_wanted ∙ subst (Whole r.wanted) (m ∙ ap (meant r seen.place) e) (whole r.wanted r seen.token seen.place)
+      let m : step_at r.wanted r seen.token seen.place ≡ meant r decided = d r c.stands.sound c.stands.holds.as_wanted c.stands.holds.as_level c.stands.holds.as_jobs in
+      sym c.stands.holds.as_wanted ∙ subst (Whole r.wanted) (m ∙ ap (meant r) e) (whole r.wanted r seen.token seen.place)
 
   -- one token that goes on
   pub step_on : (act : Turn) → decided ≡ Ok act → Goes act → (s' s'' : State) → Acts s act s' → Lent s s' → s'' ≡ record s' { at = seen.next } → Onward (λ x. Moved s.wanted s.level x.wanted x.level) s s''

@@ -20,10 +20,15 @@ pub fn step(state: &mut State) -> Result<Option<Order>, Fault>
     ensures steps { Steps state.old result state.new }
 {
     let seen = next_token(state.file, state.at);
-    let place = seen.place as u32;
-    let turn = state
-        .decide(seen.token)
-        .map_err(|refusal| Fault { refusal, place })?;
+    let turn = match state.decide(seen.token, seen.place) {
+        Ok(turn) => turn,
+        Err(stop) => {
+            return Err(Fault {
+                refusal: stop.refusal,
+                place: stop.place as u32,
+            });
+        }
+    };
     match turn {
         Turn::Want(wanted) => state.want_next(wanted),
         Turn::Take(n) => state.take_in(n),
