@@ -20,7 +20,7 @@ use Rattle.grammar.specs.declared.Stop.{Stop}
 use Rattle.grammar.specs.declared.State.{State}
 use Rattle.grammar.specs.declared.Turn.{Turn}
 use Rattle.grammar.specs.declared.Turn.TheVariants.{Want, Take, Leave, Done}
-use Rattle.grammar.specs.Turns.{acted, turned, meant, Goes, deepest, fullest, half, Sound, Decides, Long, Lent, Acts, Bounded, Finished, Stands}
+use Rattle.grammar.specs.Turns.{acted, turned, meant, Goes, deepest, fullest, half, Sound, Decides, Long, Lent, Acts, Changes, Untouched, Bounded, Finished, Stands}
 
 -- ---- a fact of a step, from the same fact of the steps that it chooses from
 pub pick_all : {A : Type 0} (P : A → Type 0) (b : Bool) (x y : A) → (b ≡ true → P x) → (b ≡ false → P y) → P (pick b x y)
@@ -276,6 +276,9 @@ lent_on s s' s'' a b = record {
   length_due = b.length_due ∙ a.length_due;
   length_least = b.length_least ∙ a.length_least;
 }
+
+pub changes_acts : (s : State) (t : Turn) (s' : State) → Changes s t s' → Untouched s s' → Acts s t s'
+changes_acts s t s' c u = λ r sound long h. rw (u.as_work, u.as_due, u.as_least) (c r s.work.now s.due.now s.least.now h)
 
 module _ (s : State) (c : Stands s) where
   pub stands_bounded : Bounded s

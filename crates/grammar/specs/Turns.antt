@@ -155,6 +155,18 @@ pub record Lent (s s' : State) : Type 0 where
 abbrev pub Acts : State → Turn → State → Type 0
 Acts s t s' = (r : Reading) → Sound r → Long s → Holds r s → Holds (acted r t) s'
 
+-- The counts alone are changed, as the turn changes a reading, whatever the lists hold.
+abbrev pub Changes : State → Turn → State → Type 0
+Changes s t s' =
+    (r : Reading) (work due least : List ℕ) → Shows r s.wanted s.boards s.level s.jobs work due least → Shows (acted r t) s'.wanted s'.boards s'.level s'.jobs work due least
+
+-- the place and what the lists hold stay as they were
+pub record Untouched (s s' : State) : Type 0 where
+  pub same_at : s'.at ≡ s.at
+  pub as_work : s'.work.now ≡ s.work.now
+  pub as_due : s'.due.now ≡ s.due.now
+  pub as_least : s'.least.now ≡ s.least.now
+
 -- How a file is read: the refusal, or the boards and the lists at the front of the buffers.
 abbrev pub Finished : List ℕ → Result Order Fault → List ℕ → List ℕ → Type 0
 Finished file (Err fault) work due = (order_of file ≡ refused fault.refusal fault.place) × (fault.place ≤ length file)
@@ -177,7 +189,10 @@ pub record Stands (s : State) : Type 0 where
 -- at the start of a file
 pub record Starts (s : State) (file work due least : List ℕ) : Type 0 where
   pub stands : Stands s
+  pub place : s.at ≡ 0
   pub wanted : s.wanted ≡ OrderOpen
+  pub boards : s.boards ≡ 0
+  pub jobs : s.jobs ≡ 0
   pub level : s.level ≡ 0
   pub file_is : s.file.now ≡ file
   pub work_is : s.work.now ≡ work

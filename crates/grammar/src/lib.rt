@@ -8,7 +8,7 @@
 ghost use Rattle.std.specs.Prelude.{◌≡◌, Result, Ok, Err, List, ℕ, ◌≤◌, eqb, ltb, length, get_or, set};
 ghost use Rattle.rules.specs.Basics.{pick, most_jobs, most_levels};
 ghost use Rattle.rules.specs.Orders.{Reading, go, stop, done, want, bracket, word, number, ending, after_reading};
-ghost use Rattle.grammar.specs.Turns.{acted, meant, misplaced_as, capped, said_of, Decides, Acts, Lent, Starts, Bounded, Writable, Answers, outcome_of};
+ghost use Rattle.grammar.specs.Turns.{acted, meant, misplaced_as, capped, said_of, Decides, Acts, Changes, Untouched, Lent, Starts, Bounded, Writable, Answers, outcome_of};
 
 use lists::clear_from;
 use refusals::Fault;
@@ -51,6 +51,11 @@ pub enum Turn {
     Leave,
     Done,
 }
+
+// 01: "Boards run to 64; work and due to 1,000,000".
+const MOST_BOARDS: u32 = 64;
+
+const MOST_MINUTES: u32 = 1000000;
 
 // Why the reading stops, and at which byte.
 #[derive(Clone, Copy)]
@@ -169,32 +174,15 @@ fn end_wanted(token: Token, place: usize, ends: Result<Turn, Stop>) -> Result<Tu
     }
 }
 
-// 01: 6, "a group at level 33".
+// 01: 6, "a group at level 33", and 7, "a 1,001st job": one more of what there may be so many of, or the refusal.
 #[tactic(auto, unfolding(rules::specs::Orders::want, crate::specs::Turns::meant, crate::specs::Turns::turned, crate::specs::Turns::acted))]
-fn group_begins(level: usize, place: usize) -> Result<Turn, Stop>
-    ensures { (r : Reading) → meant r result ≡ pick (ltb level most_levels) (want r Wanted.GroupDue) (stop Refusal.TooDeep place) }
+fn begins(so_far: usize, most: usize, wanted: Wanted, full: Stop) -> Result<Turn, Stop>
+    ensures { (r : Reading) → meant r result ≡ pick (ltb so_far most) (want r wanted) (stop full.refusal full.place) }
 {
-    if level < MOST_LEVELS {
-        return Ok(Turn::Want(Wanted::GroupDue));
+    if so_far < most {
+        return Ok(Turn::Want(wanted));
     }
-    Err(Stop {
-        refusal: Refusal::TooDeep,
-        place,
-    })
-}
-
-// 01: 7, "a 1,001st job".
-#[tactic(auto, unfolding(rules::specs::Orders::want, crate::specs::Turns::meant, crate::specs::Turns::turned, crate::specs::Turns::acted))]
-fn job_begins(jobs: usize, place: usize) -> Result<Turn, Stop>
-    ensures { (r : Reading) → meant r result ≡ pick (ltb jobs most_jobs) (want r Wanted.JobWork) (stop Refusal.TooManyJobs place) }
-{
-    if jobs < MOST_JOBS {
-        return Ok(Turn::Want(Wanted::JobWork));
-    }
-    Err(Stop {
-        refusal: Refusal::TooManyJobs,
-        place,
-    })
+    Err(full)
 }
 
 // 01: 8, "a well-formed order without a job".
@@ -266,7 +254,7 @@ impl<'f, 'w, 'd, 'l> State<'f, 'w, 'd, 'l> {
                 no,
             ),
             Wanted::OrderWord => word_wanted(token, place, Ok(Turn::Want(Wanted::Boards)), no, no),
-            Wanted::Boards => number_wanted(token, place, 64),
+            Wanted::Boards => number_wanted(token, place, MOST_BOARDS),
             Wanted::ItemOrClose => {
                 bracket_wanted(
                     token,
@@ -276,17 +264,25 @@ impl<'f, 'w, 'd, 'l> State<'f, 'w, 'd, 'l> {
                 )
             }
             Wanted::ItemWord => {
+                let deep = Stop {
+                    refusal: Refusal::TooDeep,
+                    place,
+                };
+                let many = Stop {
+                    refusal: Refusal::TooManyJobs,
+                    place,
+                };
                 word_wanted(
                     token,
                     place,
                     no,
-                    group_begins(self.level, place),
-                    job_begins(self.jobs, place),
+                    begins(self.level, MOST_LEVELS, Wanted::GroupDue, deep),
+                    begins(self.jobs, MOST_JOBS, Wanted::JobWork, many),
                 )
             }
-            Wanted::GroupDue => number_wanted(token, place, 1000000),
-            Wanted::JobWork => number_wanted(token, place, 1000000),
-            Wanted::JobDue => number_wanted(token, place, 1000000),
+            Wanted::GroupDue | Wanted::JobWork | Wanted::JobDue => {
+                number_wanted(token, place, MOST_MINUTES)
+            }
             Wanted::JobClose => bracket_wanted(
                 token,
                 place,
@@ -299,7 +295,8 @@ impl<'f, 'w, 'd, 'l> State<'f, 'w, 'd, 'l> {
 
     pub fn want_next(&mut self, wanted: Wanted)
         ensures lent { Lent self.old self.new }
-        ensures acts { Acts self.old (Turn.Want wanted) self.new }
+        ensures changes { Changes self.old (Turn.Want wanted) self.new }
+        ensures stays { Untouched self.old self.new }
     {
         self.wanted = wanted;
     }
@@ -307,7 +304,8 @@ impl<'f, 'w, 'd, 'l> State<'f, 'w, 'd, 'l> {
     // `)` leaves the innermost group, or the order.
     pub fn leave(&mut self)
         ensures lent { Lent self.old self.new }
-        ensures acts { Acts self.old Turn.Leave self.new }
+        ensures changes { Changes self.old Turn.Leave self.new }
+        ensures stays { Untouched self.old self.new }
     {
         if self.level == 0 {
             self.wanted = Wanted::Finish;
@@ -322,6 +320,7 @@ impl<'f, 'w, 'd, 'l> State<'f, 'w, 'd, 'l> {
         requires { Bounded self.old }
         ensures lent { Lent self.old self.new }
         ensures acts { Acts self.old (Turn.Take n) self.new }
+        ensures place { self.new.at ≡ self.old.at }
     {
         match self.wanted {
             Wanted::Boards => {
@@ -365,6 +364,7 @@ pub fn clear_behind(ended: Result<Order, Fault>, work: &mut [u32], due: &mut [u3
     requires { Writable ended work.old due.old }
     ensures { Answers (after_reading (outcome_of ended work.old due.old) work.old due.old) ended work.new due.new }
 {
+    // `as`, here and in `order`, goes to or from `usize`: the proof shows that the number fits.
     let kept = match ended {
         Ok(order) => order.jobs as usize,
         Err(_) => 0,

@@ -4,7 +4,7 @@ use Rattle.grammar.specs.declared.Order.{Order}
 use Rattle.grammar.specs.Turns.{Finished}
 use Rattle.grammar.specs.declared.State.{State}
 use Rattle.grammar.specs.declared.Turn.TheVariants.{Want, Take, Leave}
-use Rattle.grammar.specs.Steps.{stands_bounded, stop_place, stands_stop, stands_done}
+use Rattle.grammar.specs.Steps.{stands_bounded, changes_acts, stop_place, stands_stop, stands_done}
 use Rattle.reader.specs.Laws.{step_on, whole_at}
 use Rattle.reader.proofs.step.Goals as goal
 use Rattle.reader.proofs.step.Goals.{in-Want, in-Take, in-Leave}
@@ -41,9 +41,9 @@ returns-clause-steps c =
     let on = step_on c.args.state.now c.requires _ c.next_token-seen.ensures _ c.decide.ensures in
     elim c.match-turn.branch [
       | in-Want w ↦
-          on (Want w.in-Want.wanted) (c.in-Ok.is ∙ ap Ok w.in-Want.is) tt w.want_next.new.self _ w.want_next.ensures.acts w.want_next.ensures.lent (ap (λ (x : State). record x { at = c.next_token-seen.result.next }) w.state-is)
+          on (Want w.in-Want.wanted) (c.in-Ok.is ∙ ap Ok w.in-Want.is) tt w.want_next.new.self _ (changes_acts _ _ _ w.want_next.ensures.changes w.want_next.ensures.stays) w.want_next.ensures.lent (ap (λ (x : State). record x { at = c.next_token-seen.result.next }) w.state-is)
       | in-Take w ↦
           on (Take w.in-Take.n) (c.in-Ok.is ∙ ap Ok w.in-Take.is) tt w.take_in.new.self _ w.take_in.ensures.acts w.take_in.ensures.lent (ap (λ (x : State). record x { at = c.next_token-seen.result.next }) w.state-is)
       | in-Leave w ↦
-          on Leave (c.in-Ok.is ∙ ap Ok w.in-Leave.is) tt w.leave.new.self _ w.leave.ensures.acts w.leave.ensures.lent (ap (λ (x : State). record x { at = c.next_token-seen.result.next }) w.state-is)
+          on Leave (c.in-Ok.is ∙ ap Ok w.in-Leave.is) tt w.leave.new.self _ (changes_acts _ _ _ w.leave.ensures.changes w.leave.ensures.stays) w.leave.ensures.lent (ap (λ (x : State). record x { at = c.next_token-seen.result.next }) w.state-is)
     ]

@@ -22,5 +22,6 @@ returns-in-JobDue-clause-acts c =
 pub returns-in_default : goal.returns-in_default
 returns-in_default c = record {
   lent = search rules;
+  place = search rules;
   acts = λ r sound long h. took_none _ _ _ _ _ _ _ _ h c.args.n (no_take c.args.self.now.wanted c.in_default.not-Boards c.in_default.not-GroupDue c.in_default.not-JobWork c.in_default.not-JobDue);
 }
