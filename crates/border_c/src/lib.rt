@@ -1,6 +1,6 @@
-// The exports of the static archive: crates/border under the names that C calls, clause for clause (C links an archive, our own
-// crates a library, and a crate is one of them). A `&[T]` is a pointer and
-// a count of elements; results are plain structs of 32-bit numbers. No function here has a `requires`: each answers all inputs.
+// The exports of the static archive: crates/border under the names that C calls, clause for clause. C links an archive, and
+// a crate is an archive or a library. A `&[T]` is a pointer and a count of elements; results are plain structs of 32-bit
+// numbers. No function here has a `requires`: each answers all inputs.
 #![tactic(auto)]
 
 ghost use Rattle.std.specs.Prelude.{◌≡◌};

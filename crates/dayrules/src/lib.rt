@@ -7,8 +7,9 @@ ghost use Rattle.std.specs.Prelude.{◌≡◌};
 ghost use Rattle.laws.specs.Found.{found};
 ghost use Rattle.rules.specs.Planning.{bad_boards, bad_lists, job_good, first_out};
 
-// The limits of 01; crates/rules/specs/Basics.antt has them as most_boards, most_jobs and most_minutes. Each crate names those
-// that it tests: an edit of a limit (limit_is_out, and job_1001, level_33, rows_2001, count_2001 elsewhere) turns one crate's.
+// The limits of 01; crates/rules/specs/Basics.antt has them as most_boards, most_jobs and most_minutes. Other crates name
+// or write out those that they test: an edit of a limit (limit_is_out; elsewhere job_1001, level_33, rows_2001, count_2001)
+// turns one crate's.
 const MOST_BOARDS: u32 = 64;
 
 const MOST_JOBS: usize = 1000;

@@ -1,8 +1,7 @@
-// One token's turn of the order grammar, and what is left in the buffers: what the reader that ships and the pair of readers share.
-// The works and dues read so far stand at the front of the buffers, and for each group round the place the least due of it and
-// of the groups round it stands in a list of 32.
-// The idea of the proof: the state stands for a `Reading` of the definition; a turn means one of the definition's steps, and
-// acting on it changes the state as it changes the reading.
+// One token's turn of the order grammar, and what is left in the buffers: what the reader that ships and the pair of readers
+// share. The works and dues read so far stand at the front of the buffers, and for each group round the place the least due
+// of it and of the groups round it stands in a list of 32. The idea of the proof: the state stands for a `Reading` of the
+// definition; a turn means one of the definition's steps, and acting on it changes the state as it changes the reading.
 #![tactic(auto)]
 
 ghost use Rattle.std.specs.Prelude.{◌≡◌, Result, Ok, Err, List, ℕ, ◌≤◌, eqb, ltb, length, get_or, set};
@@ -42,8 +41,8 @@ impl From<Order> for OrderRead {
     }
 }
 
-// What one token leads to: on to the next thing wanted, with the number that was wanted, or out of the innermost group or the
-// order; or the order is read whole.
+// What one token leads to: on to the next thing wanted, with the number that was wanted, or out of the innermost group or
+// the order; or the order is read whole.
 #[derive(Clone, Copy)]
 pub enum Turn {
     Want(Wanted),
@@ -64,8 +63,9 @@ pub struct Stop {
     pub place: usize,
 }
 
-// Where the reader stands in the file, and what it holds. Each loan has a lifetime of its own, so that a proof knows what each
-// list ends as. The list of the least dues is lent too: as an array in here it made the reader a quarter slower.
+// Where the reader stands in the file, and what it holds. No invariant: between a turn and the move of `at` behind its token
+// it holds no reading of the file. Each loan has a lifetime of its own, so that a proof knows what each list ends as. The
+// list of the least dues is lent too: as an array in here it made the reader a quarter slower.
 #[derive(Drop)]
 pub struct State<'f, 'w, 'd, 'l> {
     pub file: &'f [u8],
@@ -79,8 +79,8 @@ pub struct State<'f, 'w, 'd, 'l> {
     pub least: &'l mut [u32],
 }
 
-// Past the end of a list nothing is stored, so that no caller has to show a bound. Not by `get_mut`: of what is written through
-// that a proof knows the length alone.
+// Past the end of a list nothing is stored, so that no caller has to show a bound. Not by `get_mut`: of what is written
+// through that a proof knows the length alone.
 fn put(list: &mut [u32], at: usize, value: u32)
     ensures { list.new ≡ set list.old at value }
 {

@@ -38,7 +38,8 @@ fn is_blank(b: u8) -> bool
     matches!(b, b' ' | b'\n')
 }
 
-// The place behind the run of bytes that meet the test, from `at` on; a place beyond the file stays.
+// The place behind the run of bytes that meet the test, from `at` on; a place beyond the file stays. By places: `s[at..]`
+// would first have to ask whether `at` is in the file.
 fn run_end<F: Fn(u8) -> bool>(s: &[u8], at: usize, test: F) -> usize
     requires { F.IsAlwaysCallable test }
     ensures { RunEnd (F.post test) s.now at result }

@@ -1,6 +1,6 @@
-// Lines of the listing: numbers in decimal digits, fields and rows, put into a lent buffer one behind the other.
-// Each method says which bytes it puts at the page's end, and how many at most. A number is put from its first digit on: what
-// was put, and the digits left to put, are together those of the number.
+// Lines of the listing: numbers in decimal digits, fields and rows, put into a lent buffer one behind the other. Each method
+// says which bytes it puts at the page's end, and how many at most. A number is put from its first digit on: what was put,
+// and the digits left to put, are together those of the number.
 #![tactic(auto)]
 
 ghost use Rattle.std.specs.Prelude.{◌≡◌, [], ◌∷◌, ◌+◌, ◌*◌, ◌%◌, ◌≤◌, length};
@@ -21,6 +21,7 @@ fn lead(n: u32) -> u32
     power
 }
 
+// `as` goes to fewer bits: the proof shows that the number fits, and `try_from` would bring a branch that never comes.
 fn digit(x: u32) -> u8
     ensures { result ≡ 48 + x % 10 }
 {
@@ -106,7 +107,7 @@ impl<'a> Page<'a> {
     }
 }
 
-// "A refusal prints one line".
+// "A refusal prints one line". Numbers and no `Fault`: the contract holds of every number, and may not ask for more.
 pub fn put_refusal(b: &mut [u8], refusal: u32, place: u32) -> usize
     requires { 100 ≤ length b.old }
     ensures { Put b.old 0 (refused_line refusal place) b.new result }
@@ -117,8 +118,8 @@ pub fn put_refusal(b: &mut [u8], refusal: u32, place: u32) -> usize
     page.end
 }
 
-// "First line: `plan`, boards, jobs, rows, preemptions ... Then the rows." The count stands beside the table, as the planner gives
-// them: a table is as long as it was lent, and C has them so.
+// "First line: `plan`, boards, jobs, rows, preemptions ... Then the rows." The count stands beside the table, as the planner
+// gives them: a table is as long as it was lent, and C has them so.
 pub fn put_plan(b: &mut [u8], first: [u32; 4], table: &[u32], count: usize) -> usize
     requires { (count ≤ 2000) × (4 * count ≤ length table.now) × (100 + 44 * count ≤ length b.old) }
     ensures { Put b.old 0 (planned first (rows_of count table.now)) b.new result }

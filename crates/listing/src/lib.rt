@@ -11,7 +11,8 @@ ghost use Rattle.listing.specs.Listed.{room, Lists, listed_length, listed_lines}
 
 use refusals::Fault;
 
-// The lines of a day that was read: where they end, or why there is no plan to be put.
+// The lines of a day that was read: where they end, or why there is no plan to be put. Works and dues as they were read,
+// side by side. `as`, here and below, goes to or from `usize`: the proof shows that the number fits.
 fn list_day(boards: u32, work: &[u32], due: &[u32], lines: &mut [u8]) -> Result<usize, Fault>
     requires few { length work.now ≤ 1000 }
     requires pairs { length work.now ≡ length due.now }

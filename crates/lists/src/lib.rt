@@ -1,4 +1,4 @@
-// What reader and planner do to a lent list.
+// What grammar and planner do to a lent list.
 #![tactic(auto)]
 
 ghost use Rattle.std.specs.Prelude.{◌≡◌, ◌++◌, ◌-◌, length, take};

@@ -1,8 +1,8 @@
-// The item reader and the group reader that call each other: 01, "a group holds items, and an item may be a group". The levels
-// left fall from call to call, so the depth is bounded whatever the file. They meet the contract of the reader that ships,
-// from the same definition, and are never linked into what ships: no compiled function there calls itself.
-// The idea of the proof: each function takes a state that holds a reading, and leaves it at a later place, with what is wanted
-// there, or says how the reading is refused.
+// The item reader and the group reader that call each other: 01, "a group holds items, and an item may be a group". The
+// levels left fall from call to call, so the depth is bounded whatever the file. They meet the contract of the reader that
+// ships, from the same definition, and are never linked into what ships: no compiled function there calls itself. The idea
+// of the proof: each function takes a state that holds a reading, and leaves it at a later place, with what is wanted there,
+// or says how the reading is refused.
 #![tactic(auto)]
 
 ghost use Rattle.std.specs.Prelude.{◌≡◌, ◌+◌};
@@ -70,6 +70,7 @@ impl Way for ByItems {
         let mut state = State::start(file, work, due, &mut least);
         three(&mut state)?;
         group(&mut state, 32)?;
+        // Behind the order's closing bracket each token ends the reading.
         let Some(order) = step(&mut state)? else {
             unreachable!();
         };
@@ -77,8 +78,8 @@ impl Way for ByItems {
     }
 }
 
-// For comparing the pair with the reader that ships, in its contract, word for word: crates/pair_c exports it, and its archive
-// is linked into the comparisons alone.
+// For comparing the pair with the reader that ships, in its contract, word for word: crates/pair_c exports it, and its
+// archive is linked into the comparisons alone.
 pub fn pair_read_order(file: &[u8], work: &mut [u32], due: &mut [u32]) -> OrderRead
     ensures said { result ≡ (read_answer file.now work.old due.old).said }
     ensures works { work.new ≡ (read_answer file.now work.old due.old).work }

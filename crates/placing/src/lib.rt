@@ -94,6 +94,7 @@ fn most_room(due: u32, free: &[u32]) -> Spot
 
 // `minutes` of a job on a board from its free-from minute on: the row, and the board's new free-from minute. Both lists are
 // lent one by one, and no struct holds them: its methods would each have to say that its fields are still these two lists.
+// `as` goes to fewer bits: the proof shows that the number fits.
 fn add_row(number: u32, board: usize, minutes: u32, free: &mut [u32], table: &mut [u32])
     requires { RowReady free.old table.old board minutes }
     ensures free_after { free.new ≡ fill free.old board minutes }

@@ -35,7 +35,8 @@ fn load<const N: usize>(s: &[u8], at: usize) -> u32
     u32::from_le_bytes(bytes)
 }
 
-// Where the rows of a plan file stand: 11 comes before 15.
+// Where the rows of a plan file stand: 11 comes before 15. `as`, here and below, goes to or from `usize` or to fewer bits:
+// the proof shows that the number fits, and `try_from` would bring a branch that never comes.
 fn place_rows(file: &[u8]) -> Result<Range<usize>, Refusal>
     ensures said { part_said result ≡ part_answer file.now }
     ensures within { IfOk result (λ rows. (rows.start ≤ rows.end) × (rows.end ≤ length file.now) × (rows.end ≤ 65536)) }
@@ -71,7 +72,8 @@ pub fn find_rows(file: &[u8]) -> RowPart
     }
 }
 
-// The bytes of the rows, as a part of the file; the empty part at its front with a refusal.
+// The bytes of the rows, as a part of the file; the empty part at its front with a refusal: the answer is a part of the
+// file, whatever the file.
 pub fn row_part(file: &[u8]) -> &[u8]
     ensures { result.now ≡ part_of file.now }
 {
@@ -96,7 +98,8 @@ fn decode_row(part: &[u8], i: usize) -> TableRow
     }
 }
 
-// Row i of a plan file, counted from 0; all 0 behind its last row and for a file that is refused.
+// Row i of a plan file, counted from 0; all 0 behind its last row and for a file that is refused: C is given numbers, no
+// None.
 pub fn file_row(file: &[u8], i: usize) -> TableRow
     ensures { result ≡ table_row (row_at (part_of file.now) i) }
 {
@@ -172,7 +175,8 @@ fn first_wide(rows: &[u32]) -> Option<usize>
     Some(before + 1)
 }
 
-// The whole length of the plan file that is written: 13, then 11, then 14, then 10.
+// The whole length of the plan file that is written: 13, then 11, then 14, then 10. Table and count side by side, as C lends
+// them.
 fn write(table: &[u32], count: usize, buffer: &mut [u8], note: usize) -> Result<u32, Fault>
     ensures said { write_said result ≡ (write_answer table.now count buffer.old note).said }
     ensures later { buffer.new ≡ (write_answer table.now count buffer.old note).buffer }

@@ -12,8 +12,8 @@ const MOST_BYTES: usize = 65537;
 // A listing of 2,000 rows fits.
 const MOST_LINES: usize = 90000;
 
-// Reads until the buffer is full, the input ends or a read fails. The answer is how many bytes came. Not by `read_to_end`: that
-// fills a `Vec`, and the program's memory is fixed.
+// Reads until the buffer is full, the input ends or a read fails. The answer is how many bytes came. Not by `read_to_end`:
+// that fills a `Vec`, and the program's memory is fixed.
 fn read_full(input: &mut Stdin, buffer: &mut [u8]) -> usize
     ensures { result ≤ length buffer.new }
 {

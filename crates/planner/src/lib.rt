@@ -34,7 +34,7 @@ fn no_plan(job: Job) -> Fault
 }
 
 // All jobs, from given free-from minutes: the number of rows, and the rows at the table's front. Behind them the table may
-// hold anything.
+// hold anything. `as`, here and below, goes to or from `usize`: the proof shows that the number fits.
 fn place_jobs(records: &[u64], free: &mut [u32], table: &mut [u32]) -> Result<u32, Fault>
     requires { Enough records.now free.old table.old }
     ensures { Told (place_all [] free.old (map job_in records.now)) table.old result table.new }
@@ -83,7 +83,7 @@ fn plan_day(boards: u32, work: &[u32], due: &[u32], table: &mut [u32]) -> Result
     plan_records(&records[..n], &mut free[..m], table)
 }
 
-// "Order: 12; 13; 10 (table under 8 numbers per job); 14"
+// "Order: 12; 13; 10 (table under 8 numbers per job); 14". The checker's order is another: each answer has its own.
 fn test_day(boards: u32, work: &[u32], due: &[u32], table: &[u32]) -> Result<(), Fault>
     ensures { Tested boards work.now due.now table.now result }
 {

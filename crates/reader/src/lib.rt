@@ -1,6 +1,6 @@
-// The order reader: any bytes and two lent buffers, and always an answer, accepted or refused.
-// The idea of the proof: the state holds a reading of the definition, and one step is one of its steps. So what is still to be
-// read from the place on stays what is to be read from the start.
+// The order reader: any bytes and two lent buffers, and always an answer, accepted or refused. The idea of the proof: the
+// state holds a reading of the definition, and one step is one of its steps. So what is still to be read from the place on
+// stays what is to be read from the start.
 #![tactic(auto)]
 
 ghost use Rattle.std.specs.Prelude.{◌≡◌};
@@ -13,7 +13,8 @@ use lexer::next_token;
 use refusals::Fault;
 use rules::{OrderRead, Refusal};
 
-// One token: on to the next, or the order read whole, or the first fault at the token's first byte.
+// One token: on to the next, or the order read whole, or the first fault at the token's first byte. `as` goes to fewer bits:
+// the proof shows that the place fits.
 pub fn step(state: &mut State) -> Result<Option<Order>, Fault>
     requires { Ready state.old }
     ensures lent { Lent state.old state.new }

@@ -104,15 +104,16 @@ pub struct TableRow {
     pub to: u32,
 }
 
-// A board, counted from 0, with its room; room 0 says that there is none, as the definitions of placing do.
+// A board, counted from 0, with its room; room 0 says that there is none, as the definitions `greatest_up_to` and
+// `place_last` have it.
 #[derive(Clone, Copy)]
 pub struct Spot {
     pub board: usize,
     pub room: u32,
 }
 
-// What C is given of each call: structs of numbers, the refusal's number and place in front (C's interface has no other form).
-// Inside, answers are Results. This one is the order reader's, beside the two lists.
+// What C is given of each call: structs of numbers, the refusal's number and place in front (C's interface has no other
+// form). Inside, answers are Results. This one is the order reader's, beside the two lists.
 #[repr(C)]
 #[derive(Clone, Copy)]
 pub struct OrderRead {
