@@ -79,6 +79,8 @@ fn value(w: &[u8]) -> u32
 }
 
 // By `==`, not by patterns: in an arm `b"job"` a proof knows the length and no byte (tried).
+// Not inlined: its comparisons would give the loop over blanks five counters to keep.
+#[inline(never)]
 fn kind_of(w: &[u8]) -> Word
     ensures { result ≡ kind w.now }
 {
