@@ -89,6 +89,12 @@ fn put(list: &mut [u32], at: usize, value: u32)
     }
 }
 
+fn stop_at(refusal: Refusal, place: usize) -> Stop
+    ensures { result ≡ record { refusal = refusal; place = place } }
+{
+    Stop { refusal, place }
+}
+
 // A token where another is wanted: 3 at the end, 1 at a foreign byte, 2 otherwise.
 #[tactic(auto, unfolding(crate::specs::Turns::misplaced_as))]
 fn misplaced(token: Token, place: usize) -> Stop
@@ -101,7 +107,7 @@ fn misplaced(token: Token, place: usize) -> Stop
         Token::End => Refusal::Unclosed,
         Token::Foreign => Refusal::ForeignByte,
     };
-    Stop { refusal, place }
+    stop_at(refusal, place)
 }
 
 #[tactic(auto, using(crate::specs::Laws::bracket_misplaced), unfolding(rules::specs::Orders::bracket, crate::specs::Turns::meant))]
@@ -150,16 +156,10 @@ fn number_wanted(token: Token, place: usize, limit: u32) -> Result<Turn, Stop>
         return Err(misplaced(token, place));
     };
     let Word::Number(n) = name else {
-        return Err(Stop {
-            refusal: Refusal::NoNumber,
-            place,
-        });
+        return Err(stop_at(Refusal::NoNumber, place));
     };
     if limit < n {
-        return Err(Stop {
-            refusal: Refusal::AboveLimit,
-            place,
-        });
+        return Err(stop_at(Refusal::AboveLimit, place));
     }
     Ok(Turn::Take(n))
 }
@@ -191,10 +191,7 @@ fn order_ends(jobs: usize, place: usize) -> Result<Turn, Stop>
     ensures { (r : Reading) → meant r result ≡ pick (eqb jobs 0) (stop Refusal.NoJob place) done }
 {
     if jobs == 0 {
-        return Err(Stop {
-            refusal: Refusal::NoJob,
-            place,
-        });
+        return Err(stop_at(Refusal::NoJob, place));
     }
     Ok(Turn::Done)
 }
@@ -237,15 +234,27 @@ impl<'f, 'w, 'd, 'l> State<'f, 'w, 'd, 'l> {
         due.min(round)
     }
 
+    // An item's word: a group or a job begins.
+    #[tactic(auto, unfolding(crate::specs::Turns::meant))]
+    fn item_wanted(&self, token: Token, place: usize) -> Result<Turn, Stop>
+        ensures { (r : Reading) → meant r result ≡ word token place (stop Refusal.NotAllowed place)
+            (pick (ltb self.now.level most_levels) (want r Wanted.GroupDue) (stop Refusal.TooDeep place))
+            (pick (ltb self.now.jobs most_jobs) (want r Wanted.JobWork) (stop Refusal.TooManyJobs place)) }
+    {
+        let no = stop_at(Refusal::NotAllowed, place);
+        let deep = stop_at(Refusal::TooDeep, place);
+        let many = stop_at(Refusal::TooManyJobs, place);
+        let group = begins(self.level, MOST_LEVELS, Wanted::GroupDue, deep);
+        let job = begins(self.jobs, MOST_JOBS, Wanted::JobWork, many);
+        word_wanted(token, place, Err(no), group, job)
+    }
+
     // The grammar, a line for each thing that it can want.
     #[tactic(auto, using(crate::specs::Laws::leave_left, crate::specs::Laws::empty_is, crate::specs::Laws::whole_jobs), unfolding(rules::specs::Orders::step_at, rules::specs::Orders::want, crate::specs::Turns::meant, crate::specs::Turns::turned, crate::specs::Turns::acted, crate::specs::Turns::taken, crate::specs::Turns::half))]
     pub fn decide(&self, token: Token, place: usize) -> Result<Turn, Stop>
         ensures { Decides self.now token place result }
     {
-        let no = Err(Stop {
-            refusal: Refusal::NotAllowed,
-            place,
-        });
+        let no = Err(stop_at(Refusal::NotAllowed, place));
         match self.wanted {
             Wanted::OrderOpen => bracket_wanted(
                 token,
@@ -263,23 +272,7 @@ impl<'f, 'w, 'd, 'l> State<'f, 'w, 'd, 'l> {
                     Ok(Turn::Leave),
                 )
             }
-            Wanted::ItemWord => {
-                let deep = Stop {
-                    refusal: Refusal::TooDeep,
-                    place,
-                };
-                let many = Stop {
-                    refusal: Refusal::TooManyJobs,
-                    place,
-                };
-                word_wanted(
-                    token,
-                    place,
-                    no,
-                    begins(self.level, MOST_LEVELS, Wanted::GroupDue, deep),
-                    begins(self.jobs, MOST_JOBS, Wanted::JobWork, many),
-                )
-            }
+            Wanted::ItemWord => self.item_wanted(token, place),
             Wanted::GroupDue | Wanted::JobWork | Wanted::JobDue => {
                 number_wanted(token, place, MOST_MINUTES)
             }
