@@ -21,12 +21,12 @@ import sys
 OUTSIDE = {"memset": 64, "memcpy": 64, "memmove": 64, "memcmp": 64, "bcmp": 64}
 RETURN = 8  # the return address that a call leaves
 
-FUNCTION = re.compile(r"^([0-9a-f]+) <([^>+]+)>:$")
+FUNCTION = re.compile(r"^([0-9a-f]+) <(.+)>:$")
 LINE = re.compile(r"^ *([0-9a-f]+):\t(?:[0-9a-f]{2} )+ *\t?(.*)$")
-RELOCATION = re.compile(r"^\t+([0-9a-f]+): (R_\w+)\t(\S+?)(?:([+-])0x([0-9a-f]+))?$")
+RELOCATION = re.compile(r"^\t+([0-9a-f]+): (R_\w+)\t(.+?)(?:([+-])0x([0-9a-f]+))?$")
 PREFIXES = re.compile(r"^(?:(?:notrack|bnd|data16|cs|ds|addr32|rex\.?\w*) +)*")
 BELOW = re.compile(r"-0x([0-9a-f]+)\(%rsp[,)]")
-SECTION = re.compile(r"^Disassembly of section (\S+):$")
+SECTION = re.compile(r"^Disassembly of section (.+):$")
 
 
 class Bad(Exception):
@@ -91,7 +91,7 @@ def target_of(function, instruction, functions):
         # A function of the archive's own may be named by its section, at whose front it stands.
         fronts = [f.name for f in functions.values() if f.section == symbol and f.code[0].at == 0]
         return fronts[0] if fronts else symbol
-    place = re.search(r"<([^>+]+)(\+0x[0-9a-f]+)?>$", instruction.text)
+    place = re.search(r"<(.+?)(\+0x[0-9a-f]+)?>$", instruction.text)
     if not place:
         raise Bad(f"{function.name}: no target in {instruction.text}")
     name, inside = place.groups()

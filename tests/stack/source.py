@@ -1,15 +1,17 @@
 #!/usr/bin/env python3
 """The calls and the locals of the source: source.py [-mir FILE] [-repository DIR] CRATE...
 
-Reads the compiler's own form (MIR) of the named crates and of every crate below them in crates.txt, and refuses them unless
-  - no function reaches itself, directly or through others (a self-call in last place is a loop in the archive, so only the
-    source can show it);
-  - every call names its target, and that target is read as well: ours, and the kit's that ours reach, down to functions of C,
-    which are named. A call through a bound may lead to each method that a caller hands over for a bound.
+Reads the compiler's own form (MIR) of the named crates and of every crate below them in crates.txt, and of the kit's functions
+that they reach, down to functions of C, which are named. A generic function is read once for each choice of its types and of
+the impls for its bounds, as the compiler makes code of it; so every call has its target, and every local its size. Refused is
+  - a function that reaches itself, directly or through others (a self-call in last place is a loop in the archive, so only the
+    source can show it), and a chain of ever new choices;
+  - a call that does not name its target, and a target of ours that was not read. Of a function that is not read, each method
+    of the impls that it is given counts as called.
 A library's MIR stands in its rlib, from which the compiler links it. A static library or a program has no rlib: its own
 functions are read from the text that `rt check --generated` writes of them.
 Then it adds up the locals along the deepest chain from a function on, as they stand in the source: what code that no optimiser
-has touched would keep. A function of the kit whose size its callers choose counts nothing, and is named.
+has touched would keep.
 With -mir a file, in one form or the other, takes the place of the crates.
 """
 import argparse
@@ -21,26 +23,31 @@ import subprocess
 import sys
 import tempfile
 
+# A chain of calls is shorter, unless each call makes a new choice of types.
+LONGEST = 200
+
 
 class Bad(Exception):
     """What the source is refused for."""
 
 
-# Stands among the calls for a method of whatever a function got for a bound, called by itself or by whom it passes it to.
-BOUND = "(bound)"
+# Types, and what stands for a bound, are nested tuples: (form, content), with ("Param", i) and ("Given", i) for what the caller
+# chooses. An impl is ("Impl", methods, types, impls for its own bounds).
+Call = collections.namedtuple("Call", "target types given")  # target: a name, or (what stands for the bound, number of the method)
+Function = collections.namedtuple("Function", "name locals calls types bounds")
+Chosen = collections.namedtuple("Chosen", "name types given")  # a function with its types and its impls
 
 
-class Function:
-    """What is asked of a function. Types are in the words of the rlibs."""
-
-    def __init__(self, name, locals_, shapes):
-        self.name, self.locals, self.shapes = name, locals_, shapes
-        self.calls = set()
-        self.handed = collections.defaultdict(set)  # by callee, the methods of the impls that it gets for its bounds
-
-    def bytes(self):
-        """Each local on a place of its own, aligned to 8 bytes."""
-        return sum(rounded(measure(kind, self.shapes)[0], 8) for kind in self.locals)
+def put_in(tree, types, given):
+    """A type, an impl or several, with what the caller chose."""
+    if not isinstance(tree, tuple):
+        return tree
+    if tree[:1] == ("Param",) or tree[:1] == ("Given",):
+        chosen = types if tree[0] == "Param" else given
+        if tree[1] >= len(chosen):
+            raise Bad(f"no choice is known for {tree}")
+        return chosen[tree[1]]
+    return tuple(put_in(each, types, given) for each in tree)
 
 
 def rounded(size, alignment):
@@ -56,9 +63,9 @@ def laid_out(sizes):
     return rounded(size, widest), widest
 
 
-def measure(kind, shapes, given=()):
-    """Size and alignment of a type, or a number that stands among types. `given` is what the type's parameters are."""
-    form, content = (kind, None) if isinstance(kind, str) else next(iter(kind.items()))
+def measure(kind, shapes):
+    """Size and alignment of a type, or a number that stands among types."""
+    form, content = (kind, None) if isinstance(kind, str) else (kind[0], kind[1])
     if form == "Int":
         return content // 8, content // 8
     if form in ("Bool", "Unit"):
@@ -67,19 +74,16 @@ def measure(kind, shapes, given=()):
         return 8, 8
     if form in ("Lit", "Const"):
         return content
-    if form == "Param" and content < len(given):
-        return given[content]
     if form == "Struct":
-        return laid_out([measure(each, shapes, given) for each in content[1]])
+        return laid_out([measure(each, shapes) for each in content[1]])
     if form == "Array":
-        size, alignment = measure(content[0], shapes, given)
-        return size * measure(content[1], shapes, given), alignment
-    if form == "Named":
-        inner = [measure(each, shapes, given) for each in content[1]]
-        shape = shapes[content[0]["name"]]
-        if "Fields" in shape:
-            return laid_out([measure(each, shapes, inner) for each in shape["Fields"]])
-        cases = [laid_out([(1, 1), *(measure(each, shapes, inner) for each in case)]) for case in shape["Variants"]]
+        size, alignment = measure(content[0], shapes)
+        return size * measure(content[1], shapes), alignment
+    if form == "Named" and content in shapes:
+        shape, inner = shapes[content], kind[2]
+        if shape[0] == "Fields":
+            return laid_out([measure(put_in(each, inner, ()), shapes) for each in shape[1]])
+        cases = [laid_out([(1, 1), *(measure(put_in(each, inner, ()), shapes) for each in case)]) for case in shape[1]]
         widest = max((alignment for _, alignment in cases), default=1)
         return rounded(max((size for size, _ in cases), default=0), widest), widest
     raise Bad(f"no size is known for {kind}")
@@ -97,28 +101,51 @@ def forms(tree):
             todo.extend(here)
 
 
-def linked(name, mir):
+def type_of(tree):
+    """A type of the rlibs; lifetimes do not matter to sizes and calls."""
+    if isinstance(tree, list):
+        return tuple(type_of(each) for each in tree)
+    if not isinstance(tree, dict):
+        return tree
+    form, content = next(iter(tree.items()))
+    if form == "Ref":
+        return ("Ref", type_of(content[-1]))
+    if form == "Named":
+        return ("Named", content[0]["name"], type_of(content[1]))
+    return (form, type_of(content))
+
+
+def impl_of(tree, methods):
+    """What stands for a bound, in the rlibs."""
+    form, content = next(iter(tree.items()))
+    if form == "Given":
+        return (form, content)
+    if form != "Impl":
+        raise Bad(f"no methods are known for {form}")
+    name, types, given = content
+    return (form, methods[name], type_of(types), tuple(impl_of(each, methods) for each in given))
+
+
+def linked(name, mir, shapes):
     """A function as its library's rlib has it."""
-    function = Function(name, [each["ty"] for each in mir["locals"]], {each["name"]: each["shape"] for each in mir["types"]})
-    methods = {each["name"]: each["methods"] for each in mir["generics"]["impls"]}
-    called = mentioned = 0
+    shapes.update({each["name"]: type_of(each["shape"]) for each in mir["types"]})
+    generics = mir["generics"]
+    methods = {each["name"]: tuple(each["methods"]) for each in generics["impls"]}
+    calls, called, mentioned = [], 0, 0
     for form, content in forms(mir["body"]):
         if form == "Call" and ("Fn" in content[0] or "Method" in content[0]):
             called += 1
-            callee = content[0]["Fn"][0] if "Fn" in content[0] else BOUND
-            function.calls.add(callee)
-            for inner, impl in forms(content[0]):
-                if inner == "Impl":
-                    function.handed[callee].update(methods[impl[0]])
+            kind, parts = next(iter(content[0].items()))
+            target = parts[0] if kind == "Fn" else (impl_of(parts[0], methods), parts[1])
+            given = tuple(impl_of(each, methods) for each in parts[-1]["dicts"])
+            calls.append(Call(target, type_of(parts[-1]["types"]), given))
         elif form in ("Call", "CallV", "Foreign"):
             raise Bad(f"{name}: a call without a name")
         elif form in ("Fn", "Method"):
             mentioned += 1
-        elif form == "Given":
-            function.calls.add(BOUND)
     if mentioned != called:
         raise Bad(f"{name}: a function is used as a value")
-    return function
+    return Function(name, [type_of(each["ty"]) for each in mir["locals"]], calls, len(generics["types"]), len(generics["bounds"]))
 
 
 def term(text):
@@ -161,37 +188,52 @@ def spelled(codes):
 
 
 def kind_of(node):
-    """A type of the written form in the words of the rlibs."""
+    """A type of the written form, as those of the rlibs."""
     form, content = (node, []) if isinstance(node, str) else (node[0], node[1:])
     form = form.removeprefix("Syntax.ty_")
     if form in ("bool", "unit", "ptr"):
         return form.capitalize()
     if form == "int":
-        return {"Int": int(content[0].removeprefix("Syntax.w"))}
+        return ("Int", int(content[0].removeprefix("Syntax.w")))
     if form == "ref":
-        return {"Ref": None}
+        return ("Ref", "Unit")
     if form in ("param", "const"):
-        return {form.capitalize(): int(content[0])}
+        return (form.capitalize(), int(content[0]))
     if form in ("array", "array_p"):
-        return {"Array": [kind_of(content[0]), {"Lit" if form == "array" else "Param": int(content[1])}]}
+        return ("Array", (kind_of(content[0]), ("Lit" if form == "array" else "Param", int(content[1]))))
     if form == "struct":
-        return {"Struct": ["", kinds_of(content[1])]}
+        return ("Struct", ("", kinds_of(content[1])))
     if form == "named":
-        return {"Named": [{"name": spelled(content[0][1])}, kinds_of(content[1])]}
+        return ("Named", spelled(content[0][1]), kinds_of(content[1]))
     raise Bad(f"no size is known for {node}")
 
 
 def kinds_of(chain):
-    return [kind_of(each) for each in elements(chain)]
+    return tuple(kind_of(each) for each in elements(chain))
+
+
+def given_of(chain):
+    """What stands for bounds in the written form."""
+    return tuple(impl_written(each) for each in elements(chain))
+
+
+def impl_written(node):
+    form, content = node[0].removeprefix("Syntax."), node[1:]
+    if form == "given":
+        return ("Given", int(content[0]))
+    if form != "impl":
+        raise Bad(f"no methods are known for {form}")
+    methods, types, given = content
+    return ("Impl", tuple(each.strip('"') for each in elements(methods)), kinds_of(types), given_of(given))
 
 
 def shape_of(node):
     if node[0] == "Table.fields":
-        return {"Fields": kinds_of(node[1])}
-    return {"Variants": [kinds_of(case) for case in elements(node[1])]}
+        return ("Fields", kinds_of(node[1]))
+    return ("Variants", tuple(kinds_of(case) for case in elements(node[1])))
 
 
-def written(name, text):
+def written(name, text, shapes):
     """A function as `rt check --generated` writes it: definitions, each a paragraph."""
     terms, targets = {}, {}
     for paragraph in text.strip().split("\n\n"):
@@ -205,30 +247,33 @@ def written(name, text):
     if "locals" not in terms:
         raise Bad(f"{name}: no locals are written")
     locals_ = terms.get("by_name-locals", terms["locals"])
-    shapes = {spelled(each[1]): shape_of(each[3]) for each in elements(terms.get("table", "List.[]"))}
-    function = Function(name, [kind_of(each[1]) for each in elements(locals_)], shapes)
-    called = mentioned = 0
+    shapes.update({spelled(each[1]): shape_of(each[3]) for each in elements(terms.get("table", "List.[]"))})
+    calls, called, mentioned = [], 0, 0
     for node in walk(list(terms.values())):
         mentioned += sum(isinstance(word, str) and word.endswith(".name") for word in node)
         if node[:1] == ["Syntax.call"]:
-            target = node[1] if isinstance(node[1], str) else node[1][0]
-            if target not in targets and target != "Syntax.method":
+            target, chosen = (node[1], ()) if isinstance(node[1], str) else (node[1][0], node[1][-1])
+            if target not in targets:
                 raise Bad(f"{name}: a call without a name")
-            called += target in targets
-            callee = targets.get(target, BOUND)
-            function.calls.add(callee)
-            for inner in walk(node[1]):
-                if inner[:1] == ["Syntax.impl"]:
-                    function.handed[callee].update(method.strip('"') for method in elements(inner[1]))
+            called += 1
+            # Types and impls stand as a pair behind the name.
+            types, given = (kinds_of(chosen[1]), given_of(chosen[2])) if chosen else ((), ())
+            calls.append(Call(targets[target], types, given))
         elif node[:1] == ["Syntax.call_v"]:
             raise Bad(f"{name}: a call without a name")
         elif node[:1] in (["Syntax.fn_addr"], ["Syntax.vtable"]):
             raise Bad(f"{name}: a function is used as a value")
-        elif node[:1] == ["Syntax.given"]:
-            function.calls.add(BOUND)
     if mentioned != called:
         raise Bad(f"{name}: a function is used as a value")
-    return function
+    locals_ = [kind_of(each[1]) for each in elements(locals_)]
+    return Function(name, locals_, calls, left_open("Param", (locals_, calls)), left_open("Given", calls))
+
+
+def left_open(form, tree):
+    """How many choices a function leaves to its callers, as far as it uses them."""
+    if isinstance(tree, tuple) and tree[:1] == (form,):
+        return tree[1] + 1
+    return max((left_open(form, each) for each in tree), default=0) if isinstance(tree, (tuple, list)) else 0
 
 
 Crate = collections.namedtuple("Crate", "folder libraries is_library")
@@ -266,7 +311,7 @@ def rt(crate, *words):
         raise Bad(f"rt {words[0]} of {crate.folder.name} ended with {done.returncode}\n{done.stdout[-2000:]}")
 
 
-def functions_written(name, crate):
+def functions_written(name, crate, shapes):
     """Those of a static library or a program. Functions that call each other are written side by side in a folder +NAME."""
     with tempfile.TemporaryDirectory() as folder:
         rt(crate, "check", "--generated", folder)
@@ -279,7 +324,7 @@ def functions_written(name, crate):
         for file in found:
             path = file.parent.parent.relative_to(top).parts
             if path != ("main+run",):  # the kit's own: it calls main, and prints the error that main may end with
-                yield written("::".join([name, *path]), file.read_text(encoding="utf-8"))
+                yield written("::".join([name, *path]), file.read_text(encoding="utf-8"), shapes)
 
 
 class Kit:
@@ -298,7 +343,7 @@ class Kit:
             file = self.folder / f"{part}.rlib" / "toolchain" / "mir.json"
             self.mir.update(json.loads(file.read_text(encoding="utf-8")))
 
-    def read(self, name):
+    def read(self, name, shapes):
         """The function of this name, or of the one name that ends alike; None for a function of C, or where there is none."""
         if self.mir is None:
             self.load()
@@ -308,26 +353,26 @@ class Kit:
             found = [each for each in self.mir if ("::" + each).endswith(ending)]
             if len(found) == 1:
                 mir = self.mir[found[0]]
-                return None if any(form == "Foreign" for form, _ in forms(mir["body"])) else linked(name, mir)
+                return None if any(form == "Foreign" for form, _ in forms(mir["body"])) else linked(name, mir, shapes)
             if found:
                 break
         return None
 
 
 def read_crates(repository, wanted):
-    crates, functions = crates_of(repository), []
+    crates, functions, shapes = crates_of(repository), [], {}
     reached = below(crates, wanted)
     for name in wanted:
         # Both commands first bring the rlibs of the libraries below up to date.
         if crates[name].is_library:
             rt(crates[name], "lib")
         else:
-            functions += functions_written(name, crates[name])
+            functions += functions_written(name, crates[name], shapes)
     for name in reached:
         if crates[name].is_library:
             mir = crates[name].folder / "out" / "rlib" / f"{name}.rlib" / "toolchain" / "mir.json"
-            functions += [linked(*each) for each in json.loads(mir.read_text(encoding="utf-8"))]
-    return Source(functions, crates, Kit())
+            functions += [linked(*each, shapes) for each in json.loads(mir.read_text(encoding="utf-8"))]
+    return Source(functions, shapes, crates, Kit())
 
 
 Chain = collections.namedtuple("Chain", "size parts")
@@ -336,94 +381,99 @@ Chain = collections.namedtuple("Chain", "size parts")
 class Source:
     """Functions, of which none reaches itself and every call names its target; Bad otherwise."""
 
-    def __init__(self, functions, crates, kit=None):
-        self.functions, self.crates, self.kits = {each.name: each for each in functions}, crates, kit
-        self.known, self.unsized, self.of_c = {}, set(), set()
-        self.given = collections.defaultdict(set)  # by function, the methods that it may get for its bounds
-        self.spread()
+    def __init__(self, functions, shapes, crates, kit=None):
+        self.functions, self.shapes, self.crates, self.kits = {each.name: each for each in functions}, shapes, crates, kit
+        self.called, self.known, self.of_c = {}, {}, set()
+        # A generic function is read where it is called: only there it is compiled.
+        self.roots = sorted(each.name for each in functions if not each.types and not each.bounds)
         done = set()
-        for name in sorted(self.functions):
-            self.follow(name, (), done)
+        for name in self.roots:
+            self.follow(Chosen(name, (), ()), (), done)
 
-    def spread(self):
-        """Brings in the kit's functions that are reached, and passes on what is handed for a bound, until nothing is new."""
-        changed = True
-        while changed:
-            changed = False
-            for function in list(self.functions.values()):
-                own = self.given[function.name] if BOUND in function.calls else set()
-                for callee in (function.calls - {BOUND}) | own:
-                    handed = own | function.handed.get(BOUND if callee in own else callee, set())
-                    if not handed <= self.given[callee]:
-                        self.given[callee] |= handed
-                        changed = True
-                    changed = self.bring(callee) or changed
+    def function(self, name):
+        """The function of this name; None for one of C or of the kit that is not read."""
+        if name not in self.functions and not self.is_ours(name) and name not in self.of_c:
+            found = self.kits and self.kits.read(name, self.shapes)
+            if found:
+                self.functions[name] = found
+            else:
+                self.of_c.add(name)
+        return self.functions.get(name)
 
-    def bring(self, name):
-        """Whether a function of the kit was read now."""
-        if self.kits is None or self.is_ours(name) or name in self.functions or name in self.of_c:
-            return False
-        if found := self.kits.read(name):
-            self.functions[name] = found
-        else:
-            self.of_c.add(name)
-        return found is not None
+    def targets(self, chosen):
+        """What a function may call, with their types and impls; and those of C or of the kit that are not read."""
+        if chosen not in self.called:
+            read, unread = set(), set()
+            todo = [self.resolved(call, chosen) for call in self.functions[chosen.name].calls]
+            while todo:
+                here = todo.pop()
+                if self.function(here.name) or self.is_ours(here.name):
+                    read.add(here)
+                else:
+                    unread.add(here.name)
+                    todo.extend(back for impl in here.given for back in self.methods(impl))  # it may call them back
+            self.called[chosen] = read, unread
+        return self.called[chosen]
 
-    def targets(self, name):
-        """What a function may call: functions that are read, and those of C (or of the kit, where that is not read)."""
-        function = self.functions[name]
-        called = set(function.calls)
-        for callee, methods in function.handed.items():
-            read = callee == BOUND or callee in self.functions or self.is_ours(callee)
-            called |= set() if read else methods  # what is not read may call them back
-        if BOUND in called:
-            called = called - {BOUND} | self.given[name]
-        read = {each for each in called if each in self.functions or self.is_ours(each)}
-        return read, called - read
+    def resolved(self, call, chosen):
+        """The target of a call, where its function is called with these types and impls."""
+        types = put_in(call.types, chosen.types, chosen.given)
+        given = put_in(call.given, chosen.types, chosen.given)
+        if isinstance(call.target, str):
+            return Chosen(call.target, types, given)
+        impl = put_in(call.target[0], chosen.types, chosen.given)
+        return Chosen(impl[1][call.target[1]], impl[2] + types, impl[3] + given)
+
+    def methods(self, impl):
+        """What a function that is not read may call of an impl."""
+        for name in impl[1]:
+            function = self.function(name)
+            if function and (function.types, function.bounds) != (len(impl[2]), len(impl[3])):
+                raise Bad(f"{name} may be called with types that are not known")
+            yield Chosen(name, impl[2], impl[3])
 
     def is_ours(self, name):
         return name.split("::")[0] in self.crates
 
-    def follow(self, name, chain, done):
-        if name in chain:
-            raise Bad("reaches itself: " + " -> ".join([*chain[chain.index(name):], name]))
-        if name not in self.functions:
-            raise Bad(f"{chain[-1]} calls {name}, which was not read")
-        if name not in done:
-            for called in sorted(self.targets(name)[0]):
-                self.follow(called, (*chain, name), done)
-            done.add(name)
+    def follow(self, chosen, chain, done):
+        if chosen in chain:
+            raise Bad("reaches itself: " + " -> ".join(each.name for each in [*chain[chain.index(chosen):], chosen]))
+        if chosen.name not in self.functions:
+            raise Bad(f"{chain[-1].name} calls {chosen.name}, which was not read")
+        function = self.functions[chosen.name]
+        if (function.types, function.bounds) != (len(chosen.types), len(chosen.given)):
+            raise Bad(f"{chosen.name} is called with other types than it has")
+        if len(chain) > LONGEST:
+            raise Bad(f"no end is found of the calls from {chain[0].name} on")
+        if chosen not in done:
+            for called in sorted(self.targets(chosen)[0], key=repr):
+                self.follow(called, (*chain, chosen), done)
+            done.add(chosen)
 
-    def bytes(self, name):
-        try:
-            return self.functions[name].bytes()
-        except Bad:
-            if self.is_ours(name):
-                raise
-            self.unsized.add(name)
-            return 0
+    def bytes(self, chosen):
+        """Each local on a place of its own, aligned to 8 bytes."""
+        locals_ = put_in(tuple(self.functions[chosen.name].locals), chosen.types, chosen.given)
+        return sum(rounded(measure(kind, self.shapes)[0], 8) for kind in locals_)
 
-    def deepest(self, name):
+    def deepest(self, chosen):
         """Bytes of locals of the deepest chain from a function on, and its functions with their own."""
-        if name not in self.known:
-            under = max(map(self.deepest, self.targets(name)[0]), default=Chain(0, ()))
-            own = self.bytes(name)
-            self.known[name] = Chain(own + under.size, ((name, own), *under.parts))
-        return self.known[name]
+        if isinstance(chosen, str):
+            chosen = Chosen(chosen, (), ())
+        if chosen not in self.known:
+            under = max(map(self.deepest, self.targets(chosen)[0]), key=lambda chain: (chain.size, chain.parts), default=Chain(0, ()))
+            own = self.bytes(chosen)
+            self.known[chosen] = Chain(own + under.size, ((chosen.name, own), *under.parts))
+        return self.known[chosen]
 
-    def reached(self, name):
-        """All that a function may call, directly or through others."""
-        found, todo = set(), [name]
+    def unread(self, name):
+        """What a function may call, directly or through others, that is not read."""
+        found, seen, todo = set(), set(), [Chosen(name, (), ())]
         while todo:
-            here = todo.pop()
-            read, unread = self.targets(here)
-            todo.extend(read - found)
-            found |= read | unread
+            read, unread = self.targets(todo.pop())
+            found |= unread
+            todo.extend(read - seen)
+            seen |= read
         return found
-
-    def kit(self, name):
-        """The kit's and C's functions that a function may reach."""
-        return {each for each in self.reached(name) if not self.is_ours(each)}
 
     def about(self):
         ours = sum(self.is_ours(name) for name in self.functions)
@@ -432,12 +482,9 @@ class Source:
 
 
 def show(source, name):
-    try:
-        size, parts = source.deepest(name)
-        print(f"{name} {size}: " + " -> ".join(f"{each} {bytes_}" for each, bytes_ in parts))
-    except Bad as bad:
-        print(f"{name}: {bad}")  # a function whose size its callers choose
-    for each in sorted(source.kit(name) - source.functions.keys()):
+    size, parts = source.deepest(name)
+    print(f"{name} {size}: " + " -> ".join(f"{each} {bytes_}" for each, bytes_ in parts))
+    for each in sorted(source.unread(name)):
         print(f"    may reach {each}, which is not read")
 
 
@@ -450,11 +497,13 @@ def main():
     try:
         if asked.mir:
             text = pathlib.Path(asked.mir).read_text(encoding="utf-8")
-            functions = [linked(*each) for each in json.loads(text)] if text.startswith("[") else [written("a::f", text)]
-            source = Source(functions, {each.name.split("::")[0] for each in functions})
+            shapes = {}
+            is_linked = text.startswith("[")
+            functions = [linked(*each, shapes) for each in json.loads(text)] if is_linked else [written("a::f", text, shapes)]
+            source = Source(functions, shapes, {each.name.split("::")[0] for each in functions})
         else:
             source = read_crates(asked.repository, asked.crates)
-        for name in sorted(source.functions):
+        for name in source.roots:
             if name.split("::")[0] in asked.crates:
                 show(source, name)
         print(source.about())

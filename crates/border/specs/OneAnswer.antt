@@ -10,7 +10,7 @@ use Rattle.rules.specs.Orders.{read_answer}
 use Rattle.rules.specs.Planning.{plan_answer}
 use Rattle.rules.specs.Checking.{check_answer}
 use Rattle.rules.specs.PlanFiles.{part_answer, part_of, write_answer}
-use Rattle.planfile.specs.declared.TableRow.{TableRow}
+use Rattle.rules.specs.declared.TableRow.{TableRow}
 use Rattle.planfile.specs.Rows.{table_row, row_at}
 use Rattle.laws.specs.Tests.{same_answer}
 

@@ -13,8 +13,7 @@ ghost use Rattle.rules.specs.PlanFiles.{part_answer, part_of, write_answer};
 ghost use Rattle.checker.specs.Answer.{SaysPlans};
 ghost use Rattle.planfile.specs.Rows.{table_row, row_at};
 
-use planfile::TableRow;
-use rules::{Checked, OrderRead, Planned, RowPart, Written};
+use rules::{Checked, OrderRead, Planned, RowPart, TableRow, Written};
 
 // Reads an order file into two lent lists.
 pub fn tuffbasket_read_order(file: &[u8], work: &mut [u32], due: &mut [u32]) -> OrderRead

@@ -1,5 +1,6 @@
-// The exports of the static archive: crates/border under the names that C calls, clause for clause. A `&[T]` is a pointer and
-// a count of elements; results are plain structs of 32-bit numbers. No function here has a `requires`: each answers all inputs.
+// The exports of the static archive: crates/border under the names that C calls, clause for clause. C links an archive, and
+// a crate is an archive or a library. A `&[T]` is a pointer and a count of elements; results are plain structs of 32-bit
+// numbers. No function here has a `requires`: each answers all inputs.
 #![tactic(auto)]
 
 ghost use Rattle.std.specs.Prelude.{◌≡◌};
@@ -12,8 +13,7 @@ ghost use Rattle.rules.specs.PlanFiles.{part_answer, part_of, write_answer};
 ghost use Rattle.checker.specs.Answer.{SaysPlans};
 ghost use Rattle.planfile.specs.Rows.{table_row, row_at};
 
-use planfile::TableRow;
-use rules::{Checked, OrderRead, Planned, RowPart, Written};
+use rules::{Checked, OrderRead, Planned, RowPart, TableRow, Written};
 
 // Reads an order file into two lent lists.
 #[unsafe(no_mangle)]

@@ -10,8 +10,9 @@ use Rattle.rules.specs.Plans.{jobs, rows_of, is_plan}
 use Rattle.rules.specs.Planning.{PlanAnswer, plan_answer, bad_boards, bad_lists, first_out}
 use Rattle.rules.specs.Checking.{refused_check, bad_table, check_answer}
 use Rattle.laws.specs.Tests.{decided}
+use Rattle.dayrules.specs.Ranges.{lists_fit}
 use Rattle.theory.proofs.Answers.{answer_right}
-use Rattle.checker.specs.Answer.{at_boards, at_lists, at_table, at_numbers, at_rows, fit, said_yes, verdict_plan, verdict_no}
+use Rattle.checker.specs.Answer.{at_boards, at_lists, at_table, at_numbers, at_rows, said_yes, verdict_plan, verdict_no}
 
 -- a yes comes with "rows minus jobs", and only past the checks
 module _ (m : ℕ) (works dues table : List ℕ) (count : ℕ) where
@@ -29,7 +30,7 @@ module _ (m : ℕ) (works dues table : List ℕ) (count : ℕ) where
         | inr t ↦ elim (dec_le (first_out works dues) 0) [
           | no o ↦ absurd (refusals_say_no OutOfRange (first_out works dues) (at_numbers m works dues table count b l t (omega arith)) y)
           | yes o ↦ elim (decided (is_plan m (jobs works dues) (rows_of count table))) [
-            | inl p ↦ at_rows m works dues table count b l t o ∙ verdict_plan _ works dues table count (fit m works dues table count b l t o).even p
+            | inl p ↦ at_rows m works dues table count b l t o ∙ verdict_plan _ works dues table count (lists_fit works dues l).0 p
             | inr n ↦ absurd (omega (arith, ap (λ (c : Checked). c.yes) (at_rows m works dues table count b l t o), verdict_no _ (rows_of count table) (jobs works dues) n))
           ]
         ]

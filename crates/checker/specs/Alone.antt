@@ -1,6 +1,7 @@
 -- What is asked of a row alone: that it serves a job of the lists is a question of one due minute.
 use Rattle.std.specs.Prelude.{◌≡◌, refl, Bool, true, false, ◌&&◌, ◌||◌, List, [], ◌∷◌, ℕ, zero, suc, ◌+◌, ◌-◌, ◌≤◌, ◌<◌, length, get_or, leb, ltb, eqb}
-use Rattle.std.proofs.Common.{sym, ap, ap₂, ◌∙◌, arith, leb-true, ltb-true, lt-ltb, le-ltb, eq-eqb, ne_eqb}
+use Rattle.std.specs.List.{list_all}
+use Rattle.std.proofs.Common.{sym, ap, ap₂, ◌∙◌, arith, leb-true, ltb-true, eq-eqb, ne_eqb}
 use Rattle.std.proofs.Math.Decide.{dec_le}
 use Rattle.std.proofs.lemmas.Bool.{lt-leb}
 use Rattle.rules.specs.Basics.{some, every, within, most_minutes}
@@ -73,37 +74,11 @@ unfolding every
 every_same p q f [] = refl
 every_same p q f (x ∷ xs) = ap₂ (λ (a b : Bool). a && b) (f x) (every_same p q f xs)
 
--- the ways out of the test of a row
-
-pub no_board : (m : ℕ) (dues : List ℕ) (r : Row) → r.board < 1 → line_good m dues r ≡ false
-unfolding line_good
-no_board m dues r h = and_no_left _ _ (below_range 1 m r.board h)
-
-pub above_boards : (m : ℕ) (dues : List ℕ) (r : Row) → m < r.board → line_good m dues r ≡ false
-unfolding line_good
-above_boards m dues r h = and_no_left _ _ (above_range 1 m r.board h)
-
-pub no_minutes : (m : ℕ) (dues : List ℕ) (r : Row) → r.to ≤ r.from → line_good m dues r ≡ false
-unfolding line_good
-no_minutes m dues r h = and_no_right (within 1 m r.board) _ (and_no_left _ _ (le-ltb r.from r.to h))
-
-not_in_time : (m : ℕ) (dues : List ℕ) (r : Row) → within 1 (length dues) r.job ≡ false → line_good m dues r ≡ false
-unfolding line_good in_time
-not_in_time m dues r e = and_no_right (within 1 m r.board) _ (and_no_right (ltb r.from r.to) _ (and_no_left _ _ e))
-
-pub no_job : (m : ℕ) (dues : List ℕ) (r : Row) → r.job < 1 → line_good m dues r ≡ false
-no_job m dues r h = not_in_time m dues r (below_range 1 (length dues) r.job h)
-
-pub above_jobs : (m : ℕ) (dues : List ℕ) (r : Row) → length dues < r.job → line_good m dues r ≡ false
-above_jobs m dues r h = not_in_time m dues r (above_range 1 (length dues) r.job h)
-
--- what is left is the due minute
-pub by_due : (m : ℕ) (dues : List ℕ) (r : Row) → 1 ≤ r.board → r.board ≤ m → r.from < r.to → 1 ≤ r.job → r.job ≤ length dues → line_good m dues r ≡ leb r.to (get_or dues (r.job - 1) 0)
-unfolding line_good in_time
-by_due m dues r b c h j k =
-    ap (λ (a : Bool). a && (ltb r.from r.to && (within 1 (length dues) r.job && leb r.to (get_or dues (r.job - 1) 0)))) (within_yes 1 m r.board b c)
-    ∙ ap (λ (a : Bool). a && (within 1 (length dues) r.job && leb r.to (get_or dues (r.job - 1) 0))) (lt-ltb r.from r.to h)
-    ∙ ap (λ (a : Bool). a && leb r.to (get_or dues (r.job - 1) 0)) (within_yes 1 (length dues) r.job j k)
+-- the test as the library's `all` asks it
+pub every_all : {A : Type 0} (p : A → Bool) (xs : List A) → list_all p xs ≡ every p xs
+unfolding every
+every_all p [] = refl
+every_all p (x ∷ xs) = ap (λ (b : Bool). p x && b) (every_all p xs)
 
 -- what a good row gives: its job is one of n, its minutes are some, and all are at most 1,000,000
 pub record Timed (n : ℕ) (r : Row) : Type 0 where

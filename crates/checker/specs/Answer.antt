@@ -1,41 +1,28 @@
 -- The checker's answer: one law for each way out, and what its yes and its no say of plans.
-use Rattle.std.specs.Prelude.{◌≡◌, Bool, true, false, ◌&&◌, ◌||◌, List, [], ◌∷◌, ℕ, zero, suc, ◌*◌, ◌-◌, ◌/◌, ◌≤◌, ◌<◌, length, get_or, ltb, eqb}
+use Rattle.std.specs.Prelude.{◌≡◌, Bool, true, false, ◌&&◌, Option, Some, List, [], ◌∷◌, ℕ, zero, suc, ◌*◌, ◌-◌, ◌≤◌, ◌<◌, length, get_or, take, ltb}
 use Rattle.std.proofs.Math.Path.{refl, sym, ap₂}
-use Rattle.std.proofs.Common.{ap, ◌∙◌, true≢false, ltb-false, lt-ltb, le-ltb, eqb-true}
-use Rattle.std.proofs.lemmas.Bool.{false≢true, not-false}
+use Rattle.std.proofs.Common.{ap, ◌∙◌, length-take-le, true≢false, ltb-false, lt-ltb, le-ltb}
+use Rattle.std.proofs.lemmas.Bool.{false≢true}
 use Rattle.std.proofs.Math.Logic.{inl, inr}
 use native.Mathlib.Omega.{arith}
 use Rattle.std.proofs.Math.Decide.{dec_le}
 use Rattle.rules.specs.declared.Refusal.{Refusal}
 use Rattle.rules.specs.declared.Refusal.TheVariants.{BadBoards, BadLists, OutOfRange}
 use Rattle.rules.specs.declared.Checked.{Checked}
-use Rattle.rules.specs.Basics.{pick, every, every_pair, within, most_boards, most_rows, most_jobs, most_minutes}
+use Rattle.rules.specs.Basics.{pick, every, every_pair, within, most_rows, most_minutes}
 use Rattle.rules.specs.Refusals.{number_of}
 use Rattle.rules.specs.Plans.{Job, Row, Plan, jobs_from, jobs, rows_of, row_good, pair_good, is_plan, preemptions}
 use Rattle.rules.specs.Planning.{bad_boards, bad_lists, job_good, first_out_from, first_out}
 use Rattle.rules.specs.Checking.{refused_check, verdict, bad_table, check_answer}
-use Rattle.laws.specs.Tests.{pick_yes, pick_no, decided, and_left, and_right, and_no_left, and_no_right, or_left, or_right, or_no, or_no_left, or_no_right, within_high}
+use Rattle.laws.specs.Tests.{pick_yes, pick_no, decided, and_right, and_no_left, and_no_right, or_left, or_right, or_no, or_no_left, or_no_right, within_high}
 use Rattle.theory.specs.Test.{is_plan_plan, plan_is_plan}
-use Rattle.checker.specs.Rows.{length-rows}
+use Rattle.laws.specs.Found.{found, found_some, found_above}
+use Rattle.laws.specs.Rows.{length_rows_of}
+use Rattle.dayrules.specs.FirstOut.{first_out_bound}
+use Rattle.dayrules.specs.Ranges.{boards_fit, lists_fit}
+use Rattle.tablerows.specs.Chunks.{rows_in, rows_in-taken}
 use Rattle.checker.specs.Alone.{line_good, line_row, every_same}
 use Rattle.checker.specs.Minutes.{exact_minutes, exact_jobs}
-
--- 13 for the table
-
-pub table_long : (table : List ℕ) (count : ℕ) → most_rows < count → bad_table table count ≡ true
-unfolding bad_table
-table_long table count h = or_left (ltb most_rows count) (ltb (length table) (4 * count)) (lt-ltb most_rows count h)
-
-pub table_short : (table : List ℕ) (count : ℕ) → count ≤ most_rows → ltb (length table / 4) count ≡ bad_table table count
-unfolding bad_table
-table_short table count h =
-    quarter (length table) count ∙ ap (λ (b : Bool). b || ltb (length table) (4 * count)) (sym (le-ltb most_rows count h))
-  where
-    quarter : (l n : ℕ) → ltb (l / 4) n ≡ ltb l (4 * n)
-    quarter l n = elim (dec_le (4 * n) l) [
-      | yes q ↦ le-ltb (l / 4) n (omega arith) ∙ sym (le-ltb l (4 * n) q)
-      | no q ↦ lt-ltb (l / 4) n (omega arith) ∙ sym (lt-ltb l (4 * n) (omega arith))
-    ]
 
 -- The ways out, in their order.
 module _ (m : ℕ) (works dues table : List ℕ) (count : ℕ) where
@@ -129,14 +116,16 @@ says_plans m works dues table count r e =
     no : r.refusal ≡ 0 → is_plan m (jobs works dues) (rows_of count table) ≡ false → r.yes ≡ 0
     no z t = ap (λ (c : Checked). c.yes) (said z) ∙ verdict_no _ _ _ t
 
-pub answered : (m : ℕ) (works dues table : List ℕ) (count : ℕ) (r : Checked) → r ≡ check_answer m works dues table count → (r ≡ check_answer m works dues table count) × SaysPlans m works dues table count r
-answered m works dues table count r e = (e, says_plans m works dues table count r e)
+-- what the tests leave, and what that is for the rows
+pub record Passed (m : ℕ) (works dues table : List ℕ) (count : ℕ) : Type 0 where
+  pub boards : bad_boards m ≡ false
+  pub lists : bad_lists works dues ≡ false
+  pub whole : bad_table table count ≡ false
+  pub numbers : first_out works dues ≡ 0
 
--- what the tests of a day leave for the rows
-pub record Fit (m : ℕ) (works dues table : List ℕ) (count : ℕ) : Type 0 where
+pub record Fit (m : ℕ) (works dues rows : List ℕ) : Type 0 where
   pub boards_fit : m ≤ 64
-  pub rows_fit : count ≤ 2000
-  pub whole : 4 * count ≤ length table
+  pub rows_fit : length rows ≤ 8000
   pub even : length works ≡ length dues
   pub jobs_fit : length works ≤ 1000
   pub small : (i : ℕ) → i < length dues → get_or dues i 0 ≤ most_minutes
@@ -158,44 +147,47 @@ small_from k (w ∷ works) (d ∷ dues) l o i h =
     each zero h p f = p
     each (suc i) h p f = f i (omega arith)
 
-pub few_jobs : (works dues : List ℕ) → bad_lists works dues ≡ false → length works ≤ 1000
-unfolding bad_lists
-few_jobs works dues l =
-    within_high 1 most_jobs (length works)
-    (and_right (eqb (length works) (length dues)) (within 1 most_jobs (length works)) (not-false (eqb (length works) (length dues) && within 1 most_jobs (length works)) l))
+table_fits : (table : List ℕ) (count : ℕ) → bad_table table count ≡ false → (count ≤ 2000) × (4 * count ≤ length table)
+unfolding bad_table
+table_fits table count t = (
+  ltb-false most_rows count (or_no_left (ltb most_rows count) (ltb (length table) (4 * count)) t),
+  ltb-false (length table) (4 * count) (or_no_right (ltb most_rows count) (ltb (length table) (4 * count)) t),
+)
 
-pub fit : (m : ℕ) (works dues table : List ℕ) (count : ℕ) → bad_boards m ≡ false → bad_lists works dues ≡ false → bad_table table count ≡ false → first_out works dues ≤ 0 → Fit m works dues table count
-unfolding bad_boards bad_lists bad_table first_out
-fit m works dues table count b l t o =
-    let fits = not-false (eqb (length works) (length dues) && within 1 most_jobs (length works)) l in
-    let even : length works ≡ length dues = eqb-true (length works) (length dues) (and_left (eqb (length works) (length dues)) (within 1 most_jobs (length works)) fits) in
-    record {
-      boards_fit = within_high 1 most_boards m (not-false (within 1 most_boards m) b);
-      rows_fit = ltb-false most_rows count (or_no_left (ltb most_rows count) (ltb (length table) (4 * count)) t);
-      whole = ltb-false (length table) (4 * count) (or_no_right (ltb most_rows count) (ltb (length table) (4 * count)) t);
-      even = even;
-      jobs_fit = few_jobs works dues l;
-      small = small_from 0 works dues even o;
-    }
+module _ (m : ℕ) (works dues table : List ℕ) (count : ℕ) (p : Passed m works dues table count) where
+  pub count_fits : (count ≤ 2000) × (4 * count ≤ length table)
+  count_fits = table_fits table count p.whole
+
+  pub fit : Fit m works dues (take (4 * count) table)
+  unfolding first_out
+  fit =
+      let fits = lists_fit works dues p.lists in
+      record {
+        boards_fit = (boards_fit m p.boards).1;
+        rows_fit = omega (arith, count_fits, length-take-le (4 * count) table count_fits.1);
+        even = fits.0;
+        jobs_fit = fits.1.1;
+        small = small_from 0 works dues fits.0 (omega (arith, p.numbers));
+      }
 
 -- the parts of the test of a plan, by the lists
-module _ (m : ℕ) (works dues table : List ℕ) (count : ℕ) (even : length works ≡ length dues) where
-  parts : is_plan m (jobs works dues) (rows_of count table) ≡ (every (line_good m dues) (rows_of count table) && (every_pair pair_good (rows_of count table) && exact_minutes works (rows_of count table)))
+module _ (m : ℕ) (works dues : List ℕ) (rows : List Row) (even : length works ≡ length dues) where
+  parts : is_plan m (jobs works dues) rows ≡ (every (line_good m dues) rows && (every_pair pair_good rows && exact_minutes works rows))
   unfolding is_plan
   parts =
-      ap₂ (λ (a b : Bool). a && (every_pair pair_good (rows_of count table) && b))
-      (every_same (row_good m (jobs works dues)) (line_good m dues) (λ r. sym (line_row m works dues even r)) (rows_of count table))
-      (sym (exact_jobs works dues (rows_of count table) even))
+      ap₂ (λ (a b : Bool). a && (every_pair pair_good rows && b))
+      (every_same (row_good m (jobs works dues)) (line_good m dues) (λ r. sym (line_row m works dues even r)) rows)
+      (sym (exact_jobs works dues rows even))
 
-  pub bad_line : every (line_good m dues) (rows_of count table) ≡ false → is_plan m (jobs works dues) (rows_of count table) ≡ false
+  pub bad_line : every (line_good m dues) rows ≡ false → is_plan m (jobs works dues) rows ≡ false
   bad_line e = parts ∙ and_no_left _ _ e
 
-  pub bad_minutes : exact_minutes works (rows_of count table) ≡ false → is_plan m (jobs works dues) (rows_of count table) ≡ false
-  bad_minutes e = parts ∙ and_no_right (every (line_good m dues) (rows_of count table)) _ (and_no_right (every_pair pair_good (rows_of count table)) _ e)
+  pub bad_minutes : exact_minutes works rows ≡ false → is_plan m (jobs works dues) rows ≡ false
+  bad_minutes e = parts ∙ and_no_right (every (line_good m dues) rows) _ (and_no_right (every_pair pair_good rows) _ e)
 
-  pub by_pairs : every (line_good m dues) (rows_of count table) ≡ true → exact_minutes works (rows_of count table) ≡ true → is_plan m (jobs works dues) (rows_of count table) ≡ every_pair pair_good (rows_of count table)
+  pub by_pairs : every (line_good m dues) rows ≡ true → exact_minutes works rows ≡ true → is_plan m (jobs works dues) rows ≡ every_pair pair_good rows
   by_pairs e f =
-      parts ∙ ap₂ (λ (a b : Bool). a && (every_pair pair_good (rows_of count table) && b)) e f ∙ and_end (every_pair pair_good (rows_of count table))
+      parts ∙ ap₂ (λ (a b : Bool). a && (every_pair pair_good rows && b)) e f ∙ and_end (every_pair pair_good rows)
     where
       and_end : (b : Bool) → (b && true) ≡ b
       and_end true = refl
@@ -220,7 +212,7 @@ said_no = record { refusal = 0; place = 0; yes = 0; preemptions = 0 }
 
 pub verdict_plan : (b : Bool) (works dues table : List ℕ) (count : ℕ) → length works ≡ length dues → b ≡ true → verdict b (rows_of count table) (jobs works dues) ≡ said_yes (count - length works)
 unfolding verdict preemptions
-verdict_plan true works dues table count l e = ap₂ (λ (a b : ℕ). said_yes (a - b)) (length-rows table count) (length-jobs works dues l)
+verdict_plan true works dues table count l e = ap₂ (λ (a b : ℕ). said_yes (a - b)) (length_rows_of count table) (length-jobs works dues l)
 verdict_plan false works dues table count l e = absurd (false≢true e)
 
 pub verdict_none : (b : Bool) (rows : List Row) (js : List Job) → b ≡ false → verdict b rows js ≡ said_no
@@ -236,14 +228,18 @@ verdict_picked b works dues table count l =
     ]
 
 -- the last two ways out, by what the code has in hand
-pub out_of_range : (m : ℕ) (works dues table : List ℕ) (count out : ℕ) (r : Checked) → bad_boards m ≡ false → bad_lists works dues ≡ false → bad_table table count ≡ false
-    → out ≡ first_out works dues → 0 < out → r ≡ refused_check OutOfRange out → r ≡ check_answer m works dues table count
-out_of_range m works dues table count out r b l t e h s =
-    s ∙ ap (refused_check OutOfRange) e ∙ sym (at_numbers m works dues table count b l t (omega arith))
+pub job_fits : (works dues : List ℕ) (o : Option ℕ) (job : ℕ) → bad_lists works dues ≡ false → o ≡ found (first_out works dues) → o ≡ Some job → job ≤ 1000
+job_fits works dues o job l e s = omega (arith, found_some (first_out works dues) e s, first_out_bound works dues, lists_fit works dues l)
 
-pub decided_by_rows : (m : ℕ) (works dues table : List ℕ) (count out : ℕ) (plan : Bool) (r : Checked) → bad_boards m ≡ false → bad_lists works dues ≡ false → bad_table table count ≡ false
-    → out ≡ first_out works dues → out ≤ 0 → plan ≡ is_plan m (jobs works dues) (rows_of count table) → r ≡ pick plan (said_yes (count - length works)) said_no → r ≡ check_answer m works dues table count
-decided_by_rows m works dues table count out plan r b l t e h y s =
-    s ∙ verdict_picked plan works dues table count (fit m works dues table count b l t (omega arith)).even
-    ∙ ap (λ (a : Bool). verdict a (rows_of count table) (jobs works dues)) y
-    ∙ sym (at_rows m works dues table count b l t (omega arith))
+pub out_of_range : (m : ℕ) (works dues table : List ℕ) (count job : ℕ) (o : Option ℕ) → bad_boards m ≡ false → bad_lists works dues ≡ false → bad_table table count ≡ false
+    → o ≡ found (first_out works dues) → o ≡ Some job → check_answer m works dues table count ≡ refused_check OutOfRange job
+out_of_range m works dues table count job o b l t e s =
+    at_numbers m works dues table count b l t (found_above (first_out works dues) e s) ∙ ap (refused_check OutOfRange) (found_some (first_out works dues) e s)
+
+pub decided_by_rows : (m : ℕ) (works dues table : List ℕ) (count : ℕ) (plan : Bool) (r : Checked) → Passed m works dues table count
+    → plan ≡ is_plan m (jobs works dues) (rows_in (take (4 * count) table)) → r ≡ pick plan (said_yes (count - length works)) said_no → r ≡ check_answer m works dues table count
+decided_by_rows m works dues table count plan r p y s =
+    s ∙ verdict_picked plan works dues table count (fit m works dues table count p).even
+    ∙ ap (λ (a : Bool). verdict a (rows_of count table) (jobs works dues))
+    (y ∙ ap (is_plan m (jobs works dues)) (rows_in-taken count table (omega (arith, count_fits m works dues table count p))))
+    ∙ sym (at_rows m works dues table count p.boards p.lists p.whole (omega (arith, p.numbers)))

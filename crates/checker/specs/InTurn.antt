@@ -2,10 +2,10 @@
 -- the last end of its job.
 use Rattle.std.specs.Prelude.{◌≡◌, refl, Bool, true, false, ◌&&◌, List, [], ◌∷◌, ℕ, ◌≤◌, ◌<◌, length, get_or, set, leb, eqb}
 use Rattle.std.proofs.Common.{sym, ap, ◌∙◌, inl, inr, arith, length-set, get_or-set_same, get_or-set_other, leb-true, le-leb, eqb-true}
-use Rattle.std.proofs.lemmas.Bool.{false≢true, lt-leb, eqb-false}
+use Rattle.std.proofs.lemmas.Bool.{false≢true, eqb-false}
 use Rattle.rules.specs.Basics.{pick, All, Pairs, every_pair, zeros}
 use Rattle.rules.specs.Plans.{Row, Apart, pair_good}
-use Rattle.laws.specs.Tests.{pick_yes, pick_no, decided, and_yes, and_left, and_right, and_no_left, and_no_right, every_pair_pairs, pairs_every_pair}
+use Rattle.laws.specs.Tests.{pick_yes, pick_no, decided, and_yes, and_left, and_right, every_pair_pairs, pairs_every_pair}
 use Rattle.theory.specs.Test.{PairGood, yes_pair_good, pair_good_yes}
 use Rattle.checker.specs.Minutes.{zero_at}
 
@@ -78,16 +78,6 @@ pub free_clear : (on_board of_job : List ℕ) (r : Row) → Free on_board of_job
 unfolding clear
 free_clear on_board of_job r f =
     and_yes (leb (get_or on_board r.board 0) r.from) (leb (get_or of_job r.job 0) r.from) (le-leb (get_or on_board r.board 0) r.from f.board) (le-leb (get_or of_job r.job 0) r.from f.job)
-
--- the ways out of the test of a row
-
-pub board_busy : (on_board of_job : List ℕ) (r : Row) → r.from < get_or on_board r.board 0 → clear on_board of_job r ≡ false
-unfolding clear
-board_busy on_board of_job r h = and_no_left _ _ (lt-leb (get_or on_board r.board 0) r.from h)
-
-pub job_busy : (on_board of_job : List ℕ) (r : Row) → r.from < get_or of_job r.job 0 → clear on_board of_job r ≡ false
-unfolding clear
-job_busy on_board of_job r h = and_no_right (leb (get_or on_board r.board 0) r.from) _ (lt-leb (get_or of_job r.job 0) r.from h)
 
 abbrev pub Ordered : List Row → Type 0
 Ordered rs = Pairs (λ r s. r.from ≤ s.from) rs

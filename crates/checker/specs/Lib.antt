@@ -1,7 +1,5 @@
 -- Laws that the checker's proofs cite. Answer has SaysPlans, the second clause of its contract; Agreed says that the
 -- planner's table passes.
-pub mod Turns
-pub mod Rows
 pub mod Alone
 pub mod Minutes
 pub mod InTurn

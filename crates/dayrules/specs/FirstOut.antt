@@ -1,17 +1,8 @@
--- Laws of `first_out`, from the job behind `i` on: the end, a good job, a bad one; and that it names a job of the list.
-use Rattle.std.specs.Prelude.{◌≡◌, refl, true, false, List, [], ◌∷◌, ℕ, suc, ◌+◌, ◌≤◌, ◌<◌, length, drop, get_or}
-use Rattle.std.proofs.Common.{sym, ◌∙◌, ap, inl, inr, add-one, arith, drop_of_length-le, drop-cons}
-use Rattle.rules.specs.Basics.{pick}
+-- Laws of `first_out`: the end, a good job, a bad one; and that it names a job of the list.
+use Rattle.std.specs.Prelude.{◌≡◌, refl, true, false, List, [], ◌∷◌, ℕ, suc, ◌+◌, ◌≤◌, ◌⊎◌, length}
+use Rattle.std.proofs.Common.{sym, ◌∙◌, ap, inl, inr, add-one, arith}
 use Rattle.rules.specs.Planning.{job_good, first_out_from, first_out}
 use Rattle.laws.specs.Tests.{pick_yes, pick_no, decided}
-
--- the answer of the jobs from index i on
-unfoldable pub rest_out : List ℕ → List ℕ → ℕ → ℕ
-rest_out works dues i = first_out_from (suc i) (drop i works) (drop i dues)
-
-pub rest_start : (works dues : List ℕ) → rest_out works dues 0 ≡ first_out works dues
-unfolding rest_out first_out
-rest_start works dues = refl
 
 none_left : (k : ℕ) (dues : List ℕ) → first_out_from k [] dues ≡ 0
 unfolding first_out_from
@@ -23,26 +14,36 @@ unfolding first_out_from
 none_right k [] = refl
 none_right k (w ∷ works) = refl
 
-pub rest_works_end : (works dues : List ℕ) (i : ℕ) → length works ≤ i → rest_out works dues i ≡ 0
-unfolding rest_out
-rest_works_end works dues i h = rw (drop_of_length-le works h) (none_left (suc i) (drop i dues))
+pub out_start : (works dues : List ℕ) → first_out_from (0 + 1) works dues ≡ first_out works dues
+unfolding first_out
+out_start works dues = refl
 
-pub rest_dues_end : (works dues : List ℕ) (i : ℕ) → length dues ≤ i → rest_out works dues i ≡ 0
-unfolding rest_out
-rest_dues_end works dues i h = rw (drop_of_length-le dues h) (none_right (suc i) (drop i works))
+first_good : (k w d : ℕ) (ws ds : List ℕ) → job_good w d ≡ true → first_out_from (k + 1) (w ∷ ws) (d ∷ ds) ≡ first_out_from (k + 1 + 1) ws ds
+unfolding first_out_from
+first_good k w d ws ds good = pick_yes (job_good w d) _ _ good ∙ ap (λ (n : ℕ). first_out_from n ws ds) (sym (add-one (k + 1)))
 
-rest_job : (works dues : List ℕ) (i : ℕ) → i < length works → i < length dues →
-    rest_out works dues i ≡ pick (job_good (get_or works i 0) (get_or dues i 0)) (rest_out works dues (suc i)) (suc i)
-unfolding rest_out first_out_from
-rest_job works dues i p q = rw (drop-cons works i 0 p, drop-cons dues i 0 q)
+first_bad : (k w d : ℕ) (ws ds : List ℕ) → job_good w d ≡ false → first_out_from (k + 1) (w ∷ ws) (d ∷ ds) ≡ k + 1
+unfolding first_out_from
+first_bad k w d ws ds bad = pick_no (job_good w d) _ _ bad
 
-pub rest_good : (works dues : List ℕ) (i : ℕ) → i < length works → i < length dues →
-    job_good (get_or works i 0) (get_or dues i 0) ≡ true → rest_out works dues (i + 1) ≡ rest_out works dues i
-rest_good works dues i p q good = ap (rest_out works dues) (add-one i) ∙ sym (rest_job works dues i p q ∙ pick_yes _ _ _ good)
+-- The first of the jobs that are left, counted from k + 1 on, is good: the answer is that of those behind it.
+pub out_good : (k : ℕ) {k' w d whole : ℕ} {ws ws' ds ds' : List ℕ} → ws ≡ w ∷ ws' → ds ≡ d ∷ ds' → k' ≡ k + 1 → job_good w d ≡ true →
+    first_out_from (k + 1) ws ds ≡ whole → first_out_from (k' + 1) ws' ds' ≡ whole
+out_good k {w = w} {d = d} {ws' = ws'} {ds' = ds'} p q r good whole_is =
+    rw r (sym (first_good k w d ws' ds' good) ∙ rw (p, q) at whole_is)
 
-pub rest_bad : (works dues : List ℕ) (i : ℕ) → i < length works → i < length dues →
-    job_good (get_or works i 0) (get_or dues i 0) ≡ false → i + 1 ≡ rest_out works dues i
-rest_bad works dues i p q bad = add-one i ∙ sym (rest_job works dues i p q ∙ pick_no _ _ _ bad)
+-- Or it is bad: it is the answer.
+pub out_bad : (k : ℕ) {w d whole : ℕ} {ws ws' ds ds' : List ℕ} → ws ≡ w ∷ ws' → ds ≡ d ∷ ds' → job_good w d ≡ false →
+    first_out_from (k + 1) ws ds ≡ whole → k + 1 ≡ whole
+out_bad k {w = w} {d = d} {ws' = ws'} {ds' = ds'} p q bad whole_is =
+    sym (first_bad k w d ws' ds' bad) ∙ rw (p, q) at whole_is
+
+-- Or there is none.
+pub out_end : (k : ℕ) {whole : ℕ} (ws ds : List ℕ) → (length ws ≡ 0) ⊎ (length ds ≡ 0) → first_out_from k ws ds ≡ whole → whole ≡ 0
+out_end k [] ds e p = sym p ∙ none_left k ds
+out_end k (w ∷ ws) [] e p = sym p ∙ none_right k (w ∷ ws)
+out_end k (w ∷ ws) (d ∷ ds) (inl e) p = absurd (omega arith)
+out_end k (w ∷ ws) (d ∷ ds) (inr e) p = absurd (omega arith)
 
 from_bound : (k : ℕ) (works dues : List ℕ) → first_out_from (suc k) works dues ≤ k + length works
 unfolding first_out_from

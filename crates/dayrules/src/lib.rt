@@ -4,67 +4,50 @@
 #![tactic(auto)]
 
 ghost use Rattle.std.specs.Prelude.{◌≡◌};
-ghost use Rattle.rules.specs.Basics.{within};
+ghost use Rattle.laws.specs.Found.{found};
 ghost use Rattle.rules.specs.Planning.{bad_boards, bad_lists, job_good, first_out};
 
-// The limits of 01; crates/rules/specs/Basics.antt has them as most_boards, most_jobs and most_minutes.
+// The limits of 01; crates/rules/specs/Basics.antt has them as most_boards, most_jobs and most_minutes. Other crates name
+// or write out those that they test: an edit of a limit (limit_is_out; elsewhere job_1001, level_33, rows_2001, count_2001)
+// turns one crate's.
 const MOST_BOARDS: u32 = 64;
 
 const MOST_JOBS: usize = 1000;
 
 const MOST_MINUTES: u32 = 1000000;
 
-// 1 to high
-fn from_one(high: u32, n: u32) -> bool
-    ensures { result ≡ within 1 high n }
-{
-    if 1 <= n { n <= high } else { false }
-}
-
 // 12: "boards not 1 to 64"
+#[tactic(auto, unfolding(rules::specs::Planning::bad_boards, rules::specs::Basics::within))]
 pub fn bad_boards(boards: u32) -> bool
     ensures { result ≡ bad_boards boards }
 {
-    !from_one(MOST_BOARDS, boards)
+    !(1..=MOST_BOARDS).contains(&boards)
 }
 
 // 13: "work and due lists of unequal length, or not 1 to 1,000 long"
+#[tactic(auto, unfolding(rules::specs::Planning::bad_lists, rules::specs::Basics::within))]
 pub fn bad_lists(work: &[u32], due: &[u32]) -> bool
     ensures { result ≡ bad_lists work.now due.now }
 {
-    if work.len() != due.len() {
-        return true;
-    }
-    if work.len() < 1 {
-        return true;
-    }
-    MOST_JOBS < work.len()
+    work.len() != due.len() || !(1..=MOST_JOBS).contains(&work.len())
 }
 
+#[tactic(auto, unfolding(rules::specs::Planning::job_good, rules::specs::Basics::within))]
 fn job_good(work: u32, due: u32) -> bool
     ensures { result ≡ job_good work due }
 {
-    if from_one(MOST_MINUTES, work) {
-        from_one(MOST_MINUTES, due)
-    } else {
-        false
-    }
+    let allowed = 1..=MOST_MINUTES;
+    allowed.contains(&work) && allowed.contains(&due)
 }
 
-// 14: the first job whose work or due is "not 1 to 1,000,000", counted from 1, or 0 if there is none.
-pub fn first_out(work: &[u32], due: &[u32]) -> usize
-    ensures { result ≡ first_out work.now due.now }
+// 14: the first job whose work or due is "not 1 to 1,000,000", counted from 1.
+pub fn first_out(work: &[u32], due: &[u32]) -> Option<usize>
+    ensures { result ≡ found (first_out work.now due.now) }
 {
-    let mut i: usize = 0;
-    while i < work.len() {
-        if due.len() <= i {
-            return 0;
-        }
-        if job_good(work[i], due[i]) {
-            i += 1;
-        } else {
-            return i + 1;
+    for (i, (w, d)) in work.iter().zip(due).enumerate() {
+        if !job_good(*w, *d) {
+            return Some(i + 1);
         }
     }
-    0
+    None
 }

@@ -1,5 +1,5 @@
 -- Laws of the whole answer: what each way out of the reader says and leaves in the buffers.
-use Rattle.std.specs.Prelude.{◌≡◌, refl, false, ◌||◌, List, ◌++◌, ℕ, ◌-◌, ◌≤◌, ◌<◌, min, length, take, ltb}
+use Rattle.std.specs.Prelude.{◌≡◌, refl, Result, Ok, Err, false, ◌||◌, List, ◌++◌, ℕ, ◌-◌, ◌≤◌, ◌<◌, min, length, take, ltb}
 use Rattle.std.proofs.Common.{ap, subst, sym, ◌∙◌, arith, length-take-le, lt-ltb, le-ltb}
 use Rattle.std.proofs.Math.Decide.{dec_le}
 use Rattle.std.proofs.Math.Nat.{sub-zero}
@@ -7,41 +7,39 @@ use Rattle.rules.specs.declared.Refusal.{Refusal}
 use Rattle.rules.specs.declared.Refusal.TheVariants.{ShortBuffer, LongFile}
 use Rattle.rules.specs.declared.OrderRead.{OrderRead}
 use Rattle.rules.specs.Basics.{zeros, most_jobs, most_bytes}
-use Rattle.rules.specs.Refusals.{number_of}
 use Rattle.rules.specs.Orders.{Outcome, refused, accepted, ReadAnswer, refused_read, after_reading, read_answer, order_of}
 use Rattle.laws.specs.Tests.{pick_yes, pick_no, or_left, or_right, or_no}
-use Rattle.grammar.specs.declared.Ended.{Ended}
-use Rattle.grammar.specs.declared.Ended.TheVariants.{Refused, Accepted}
-use Rattle.grammar.specs.Turns.{Finished, Writable, Answers, outcome_of}
+use Rattle.refusals.specs.declared.Fault.{Fault}
+use Rattle.grammar.specs.declared.Order.{Order}
+use Rattle.grammar.specs.Turns.{Finished, Writable, Answers, outcome_of, said_of}
 
-pub finished_is : (file : List ℕ) (e : Ended) (work due : List ℕ) → Finished file e work due → order_of file ≡ outcome_of e work due
+pub finished_is : (file : List ℕ) (e : Result Order Fault) (work due : List ℕ) → Finished file e work due → order_of file ≡ outcome_of e work due
 unfolding outcome_of
-finished_is file (Refused refusal place) work due f = f.0
-finished_is file (Accepted boards jobs) work due f = f.0
+finished_is file (Err fault) work due f = f.0
+finished_is file (Ok order) work due f = f.0
 
-pub finished_fits : (file : List ℕ) (e : Ended) (work due : List ℕ) → length file ≤ most_bytes → most_jobs ≤ length work → most_jobs ≤ length due → Finished file e work due → Writable e work due
-finished_fits file (Refused refusal place) work due l w d f = omega (arith, f.1)
-finished_fits file (Accepted boards jobs) work due l w d f = (f.1, w, d)
+pub finished_fits : (file : List ℕ) (e : Result Order Fault) (work due : List ℕ) → most_jobs ≤ length work → most_jobs ≤ length due → Finished file e work due → Writable e work due
+finished_fits file (Err fault) work due w d f = tt
+finished_fits file (Ok order) work due w d f = (omega (arith, f.1), omega (arith, f.1))
 
-module _ (e : Ended) (work due work' due' : List ℕ) where
-  pub answers_refused : (refusal : Refusal) (place number : ℕ) → e ≡ Refused refusal place → number ≡ number_of refusal → work' ≡ take 0 work ++ zeros (length work - 0) → due' ≡ take 0 due ++ zeros (length due - 0) → Answers (after_reading (outcome_of e work due) work due) (record { refusal = number; place = place; boards = 0; jobs = 0 }) work' due'
-  unfolding outcome_of after_reading refused_read
-  answers_refused refusal place number q n w d =
-      subst (λ (x : Ended). Answers (after_reading (outcome_of x work due) work due) (record { refusal = number; place = place; boards = 0; jobs = 0 }) work' due') (sym q)
+-- cleared from where what is kept ends
+module _ (e : Result Order Fault) (kept : ℕ) (work due work' due' : List ℕ) (w : work' ≡ take kept work ++ zeros (length work - kept)) (d : due' ≡ take kept due ++ zeros (length due - kept)) where
+  pub answers_refused : (fault : Fault) → e ≡ Err fault → kept ≡ 0 → Answers (after_reading (outcome_of e work due) work due) e work' due'
+  unfolding outcome_of said_of after_reading refused_read
+  answers_refused fault q z =
+      let none : (l : List ℕ) → take kept l ++ zeros (length l - kept) ≡ zeros (length l) = λ (l : List ℕ). ap (λ (k : ℕ). take k l ++ zeros (length l - k)) z ∙ ap zeros (sub-zero (length l)) in
+      subst (λ (x : Result Order Fault). Answers (after_reading (outcome_of x work due) work due) x work' due') (sym q) (record { said = refl; works = w ∙ none work; dues = d ∙ none due })
+
+  pub answers_accepted : (order : Order) → e ≡ Ok order → kept ≡ order.jobs → order.jobs ≤ length work → order.jobs ≤ length due → Answers (after_reading (outcome_of e work due) work due) e work' due'
+  unfolding outcome_of said_of after_reading
+  answers_accepted order q k lw ld =
+      let whole : (l : List ℕ) → order.jobs ≤ length l → take kept l ++ zeros (length l - kept) ≡ take order.jobs l ++ zeros (length l - length (take order.jobs l)) =
+      λ (l : List ℕ) h. ap (λ (n : ℕ). take n l ++ zeros (length l - n)) k ∙ ap (λ (n : ℕ). take order.jobs l ++ zeros (length l - n)) (sym (length-take-le order.jobs l h)) in
+      subst (λ (x : Result Order Fault). Answers (after_reading (outcome_of x work due) work due) x work' due') (sym q)
       (record {
-        said = ap {B = OrderRead} (λ (k : ℕ). record { refusal = k; place = place; boards = 0; jobs = 0 }) n;
-        works = w ∙ ap zeros (sub-zero (length work));
-        dues = d ∙ ap zeros (sub-zero (length due));
-      })
-
-  pub answers_accepted : (boards jobs : ℕ) → e ≡ Accepted boards jobs → jobs ≤ length work → jobs ≤ length due → work' ≡ take jobs work ++ zeros (length work - jobs) → due' ≡ take jobs due ++ zeros (length due - jobs) → Answers (after_reading (outcome_of e work due) work due) (record { refusal = 0; place = 0; boards = boards; jobs = jobs }) work' due'
-  unfolding outcome_of after_reading
-  answers_accepted boards jobs q lw ld w d =
-      subst (λ (x : Ended). Answers (after_reading (outcome_of x work due) work due) (record { refusal = 0; place = 0; boards = boards; jobs = jobs }) work' due') (sym q)
-      (record {
-        said = ap {B = OrderRead} (λ (k : ℕ). record { refusal = 0; place = 0; boards = boards; jobs = k }) (sym (length-take-le jobs work lw));
-        works = w ∙ ap (λ (k : ℕ). take jobs work ++ zeros (length work - k)) (sym (length-take-le jobs work lw));
-        dues = d ∙ ap (λ (k : ℕ). take jobs due ++ zeros (length due - k)) (sym (length-take-le jobs due ld));
+        said = ap {B = OrderRead} (λ (n : ℕ). record { refusal = 0; place = 0; boards = order.boards; jobs = n }) (sym (length-take-le order.jobs work lw));
+        works = w ∙ whole work lw;
+        dues = d ∙ whole due ld;
       })
 
 -- of a buffer the answer keeps the length alone
@@ -75,18 +73,15 @@ module _ (file work due : List ℕ) where
     is_read h = pick_no _ _ _ long_enough ∙ pick_no _ _ _ (le-ltb most_bytes (length file) h)
 
     -- from the buffers as the reading left them
-    pub read_answers : (e : Ended) (r : OrderRead) (work₁ due₁ work₂ due₂ : List ℕ) → length file ≤ most_bytes → length work₁ ≡ length work → length due₁ ≡ length due → Finished file e work₁ due₁ → Answers (after_reading (outcome_of e work₁ due₁) work₁ due₁) r work₂ due₂ → Answers (read_answer file work due) r work₂ due₂
-    read_answers e r work₁ due₁ work₂ due₂ l w d f a =
-        subst (λ (x : ReadAnswer). Answers x r work₂ due₂)
+    pub read_answers : (e : Result Order Fault) (work₁ due₁ work₂ due₂ : List ℕ) → length file ≤ most_bytes → length work₁ ≡ length work → length due₁ ≡ length due → Finished file e work₁ due₁ → Answers (after_reading (outcome_of e work₁ due₁) work₁ due₁) e work₂ due₂ → Answers (read_answer file work due) e work₂ due₂
+    read_answers e work₁ due₁ work₂ due₂ l w d f a =
+        subst (λ (x : ReadAnswer). Answers x e work₂ due₂)
         (after_length (outcome_of e work₁ due₁) work₁ due₁ work due w d
         ∙ ap (λ (o : Outcome). after_reading o work due) (sym (finished_is file e work₁ due₁ f))
         ∙ sym (is_read l))
         a
 
   -- 10 and 11 touch nothing
-  pub refusal_answers : (refusal : Refusal) (r : OrderRead) → read_answer file work due ≡ refused_read refusal 0 work due → r ≡ (refused_read refusal 0 work due).said → Answers (read_answer file work due) r work due
-  unfolding refused_read
-  refusal_answers refusal r e q = subst (λ (x : ReadAnswer). Answers x r work due) (sym e) (record { said = q; works = refl; dues = refl })
-
-pub three : (a : ReadAnswer) (r : OrderRead) (work due : List ℕ) → Answers a r work due → (r ≡ a.said) × ((work ≡ a.work) × (due ≡ a.due))
-three a r work due h = (h.said, (h.works, h.dues))
+  pub refusal_answers : (refusal : Refusal) → read_answer file work due ≡ refused_read refusal 0 work due → Answers (read_answer file work due) (Err (record { refusal = refusal; place = 0 })) work due
+  unfolding said_of refused_read
+  refusal_answers refusal e = subst (λ (x : ReadAnswer). Answers x (Err (record { refusal = refusal; place = 0 })) work due) (sym e) (record { said = refl; works = refl; dues = refl })

@@ -1,5 +1,5 @@
 -- Laws of the definition's steps: what one token leads to, where the reading ends, and what the loop keeps.
-use Rattle.std.specs.Prelude.{◌≡◌, refl, Bool, true, false, ◌⊎◌, List, [], ◌∷◌, ◌++◌, ℕ, suc, ◌+◌, ◌≤◌, ◌<◌, length, take, leb, ltb, eqb}
+use Rattle.std.specs.Prelude.{◌≡◌, refl, Result, Ok, Err, Bool, true, false, ◌⊎◌, List, [], ◌∷◌, ◌++◌, ℕ, suc, ◌+◌, ◌≤◌, ◌<◌, length, take, leb, ltb, eqb}
 use Rattle.std.proofs.Common.{sym, ap, subst, ◌∙◌, true≢false, inl, inr, arith, length-append, lit≤, ltb-true}
 use Rattle.std.proofs.lemmas.Bool.{false≢true}
 use Rattle.rules.specs.declared.Word.{Word}
@@ -16,11 +16,11 @@ use Rattle.rules.specs.Orders.{Reading, Step, go, stop, done, Outcome, accepted,
 use Rattle.laws.specs.Tests.{decided}
 use Rattle.lexer.specs.Scan.{tokens_at, is_last, behind, NextToken}
 use Rattle.lexer.specs.declared.Seen.{Seen}
+use Rattle.grammar.specs.declared.Stop.{Stop}
 use Rattle.grammar.specs.declared.State.{State}
 use Rattle.grammar.specs.declared.Turn.{Turn}
-use Rattle.grammar.specs.declared.Turn.TheVariants.{Want, Take, Leave, Stop, Done}
-use Rattle.grammar.specs.declared.Ended.TheVariants.{Refused, Accepted}
-use Rattle.grammar.specs.Turns.{acted, meant, Goes, deepest, fullest, half, Sound, Decides, Acts, Changes, Bounded, Finished, Stands}
+use Rattle.grammar.specs.declared.Turn.TheVariants.{Want, Take, Leave, Done}
+use Rattle.grammar.specs.Turns.{acted, turned, meant, Goes, deepest, fullest, half, Sound, Decides, Long, Lent, Acts, Changes, Untouched, Bounded, Finished, Stands}
 
 -- ---- a fact of a step, from the same fact of the steps that it chooses from
 pub pick_all : {A : Type 0} (P : A → Type 0) (b : Bool) (x y : A) → (b ≡ true → P x) → (b ≡ false → P y) → P (pick b x y)
@@ -245,83 +245,105 @@ reads_first : (file : List ℕ) (at : ℕ) (seen : Seen) (r : Reading) → NextT
 unfolding reads
 reads_first file at seen r n = ap (reads r) n.tells
 
-goes_meant : (r : Reading) (t : Turn) → Goes t → meant r t ≡ go (acted r t)
-unfolding meant
-goes_meant r (Want w) g = refl
-goes_meant r (Take n) g = refl
-goes_meant r Leave g = refl
-goes_meant r (Stop refusal place) g = absurd g
-goes_meant r Done g = absurd g
+goes_turned : (r : Reading) (t : Turn) → Goes t → turned r t ≡ go (acted r t)
+unfolding turned
+goes_turned r (Want w) g = refl
+goes_turned r (Take n) g = refl
+goes_turned r Leave g = refl
+goes_turned r Done g = absurd g
 
--- where the state alone is changed, the lists are any
-pub changes_acts : (s : State) (t : Turn) (s' : State) (work due least : List ℕ) → Changes s t s' → Acts s t work due least s' work due least
-changes_acts s t s' work due least c = λ r sound lw ld ll h. c r work due least h
-
-pub stands_start : (file work due least : List ℕ) → Stands file 0 (record { wanted = OrderOpen; boards = 0; level = 0; jobs = 0 }) work due least
+-- the start
+pub stands_start : (s : State) → s.at ≡ 0 → s.wanted ≡ OrderOpen → s.boards ≡ 0 → s.level ≡ 0 → s.jobs ≡ 0 → Stands s
 unfolding order_of tokens tokens_at start deepest fullest half
-stands_start file work due least = record {
+stands_start s at wanted boards level jobs = record {
   reading = start;
   sound = record { levels = lit≤ tt; jobs = lit≤ tt; pairs = refl };
-  holds = record { as_wanted = refl; as_boards = refl; as_level = refl; as_jobs = refl; front_works = refl; front_dues = refl; held = tt };
-  same = refl;
-  inside = omega arith;
+  holds = record { as_wanted = sym wanted; as_boards = sym boards; as_level = sym level; as_jobs = sym jobs; front_works = refl; front_dues = refl; held = tt };
+  same = ap (λ (n : ℕ). reads start (tokens_at s.file.now n)) at;
+  inside = omega (arith, at);
 }
 
-module _ (file : List ℕ) (at : ℕ) (s : State) (work due least : List ℕ) (c : Stands file at s work due least) where
+-- a list as long as before is long enough
+pub long_lent : (s s' : State) → Long s → Lent s s' → Long s'
+long_lent s s' l t = record { long_work = omega (arith, l.long_work, t.length_work); long_due = omega (arith, l.long_due, t.length_due); long_least = omega (arith, l.long_least, t.length_least) }
+
+pub lent_on : (s s' s'' : State) → Lent s s' → Lent s' s'' → Lent s s''
+lent_on s s' s'' a b = record {
+  same_file = b.same_file ∙ a.same_file;
+  same_work = b.same_work ∙ a.same_work;
+  same_due = b.same_due ∙ a.same_due;
+  length_work = b.length_work ∙ a.length_work;
+  length_due = b.length_due ∙ a.length_due;
+  length_least = b.length_least ∙ a.length_least;
+}
+
+pub changes_acts : (s : State) (t : Turn) (s' : State) → Changes s t s' → Untouched s s' → Acts s t s'
+changes_acts s t s' c u = λ r sound long h. rw (u.as_work, u.as_due, u.as_least) (c r s.work.now s.due.now s.least.now h)
+
+module _ (s : State) (c : Stands s) where
   pub stands_bounded : Bounded s
   stands_bounded =
       let d : deepest c.reading.wanted ≤ 32 = deepest_most c.reading.wanted in
       let f : fullest c.reading.wanted ≤ 1000 = fullest_most c.reading.wanted in
       record { few_levels = omega (arith, c.sound.levels, c.holds.as_level); few_jobs = omega (arith, c.sound.jobs, c.sound.pairs, c.holds.as_jobs) }
 
-  module _ (seen : Seen) (n : NextToken file at seen) (turn : Turn) (d : Decides s seen.token seen.place turn) where
+  module _ (seen : Seen) (n : NextToken s.file.now s.at seen) (decided : Result Turn Stop) (d : Decides s seen.token seen.place decided) where
     -- the definition's step at the token seen
-    step_is : step_at c.reading.wanted c.reading seen.token seen.place ≡ meant c.reading turn
+    step_is : step_at c.reading.wanted c.reading seen.token seen.place ≡ meant c.reading decided
     step_is = d c.reading c.sound c.holds.as_wanted c.holds.as_level c.holds.as_jobs
 
-    outcome_is : (st : Step) → meant c.reading turn ≡ st → after c.reading st (λ next. reads next (behind seen.token (tokens_at file seen.next))) ≡ order_of file
+    outcome_is : (st : Step) → meant c.reading decided ≡ st → after c.reading st (λ next. reads next (behind seen.token (tokens_at s.file.now seen.next))) ≡ order_of s.file.now
     outcome_is st e =
-        ap (λ (x : Step). after c.reading x (λ next. reads next (behind seen.token (tokens_at file seen.next)))) (sym (step_is ∙ e))
-        ∙ sym (reads_first file at seen c.reading n)
+        ap (λ (x : Step). after c.reading x (λ next. reads next (behind seen.token (tokens_at s.file.now seen.next)))) (sym (step_is ∙ e))
+        ∙ sym (reads_first s.file.now s.at seen c.reading n)
         ∙ c.same
 
-    follows_is : (st : Step) → meant c.reading turn ≡ st → Follows c.reading seen.place st
+    follows_is : (st : Step) → meant c.reading decided ≡ st → Follows c.reading seen.place st
     follows_is st e = subst (Follows c.reading seen.place) (step_is ∙ e) (follows c.reading seen.token seen.place c.sound)
 
-    pub stands_stop : (refusal : Refusal) (place : ℕ) (work' due' : List ℕ) → turn ≡ Stop refusal place → Finished file (Refused refusal place) work' due'
-    unfolding meant after
-    stands_stop refusal place work' due' e =
-        let q : place ≡ seen.place = follows_is (stop refusal place) (ap (meant c.reading) e) in
-        (sym (outcome_is (stop refusal place) (ap (meant c.reading) e)), omega (arith, q, (n.inside c.inside).0))
+    -- a refusal's place is the token's
+    pub stop_place : (halt : Stop) → decided ≡ Err halt → halt.place ≡ seen.place
+    unfolding meant
+    stop_place halt e = follows_is (stop halt.refusal halt.place) (ap (meant c.reading) e)
 
-    pub stands_done : turn ≡ Done → Finished file (Accepted s.boards s.jobs) work due
+    pub stands_stop : (halt : Stop) (work' due' : List ℕ) → decided ≡ Err halt → Finished s.file.now (Err (record { refusal = halt.refusal; place = halt.place })) work' due'
     unfolding meant after
+    stands_stop halt work' due' e =
+        (sym (outcome_is (stop halt.refusal halt.place) (ap (meant c.reading) e)), omega (arith, stop_place halt e, (n.inside c.inside).0))
+
+    pub stands_done : decided ≡ Ok Done → Finished s.file.now (Ok (record { boards = s.boards; jobs = s.jobs })) s.work.now s.due.now
+    unfolding turned meant after
     stands_done e =
         let w : half c.reading.wanted ≡ 0 = follows_is done (ap (meant c.reading) e) in
         let m : length c.reading.works ≡ s.jobs = omega (arith, w, c.sound.pairs, c.holds.as_jobs) in (
           sym (outcome_is done (ap (meant c.reading) e))
               ∙ ap (λ (b : ℕ). accepted b c.reading.works c.reading.dues) c.holds.as_boards
-              ∙ ap (λ (x : List ℕ). accepted s.boards x c.reading.dues) (sym c.holds.front_works ∙ ap (λ (k : ℕ). take k work) m)
-              ∙ ap (λ (x : List ℕ). accepted s.boards (take s.jobs work) x) (sym c.holds.front_dues ∙ ap (λ (k : ℕ). take k due) c.holds.as_jobs),
+              ∙ ap (λ (x : List ℕ). accepted s.boards x c.reading.dues) (sym c.holds.front_works ∙ ap (λ (k : ℕ). take k s.work.now) m)
+              ∙ ap (λ (x : List ℕ). accepted s.boards (take s.jobs s.work.now) x) (sym c.holds.front_dues ∙ ap (λ (k : ℕ). take k s.due.now) c.holds.as_jobs),
           stands_bounded.few_jobs,
         )
 
-    module _ (act : Turn) (e : turn ≡ act) (g : Goes act) where
-      on_is : meant c.reading turn ≡ go (acted c.reading act)
-      on_is = ap (meant c.reading) e ∙ goes_meant c.reading act g
+    module _ (act : Turn) (e : decided ≡ Ok act) (g : Goes act) where
+      on_is : meant c.reading decided ≡ go (acted c.reading act)
+      unfolding meant
+      on_is = ap (meant c.reading) e ∙ goes_turned c.reading act g
 
       pub goes : step_at c.reading.wanted c.reading seen.token seen.place ≡ go (acted c.reading act)
       goes = step_is ∙ on_is
 
-      pub moves_on : at < seen.next
+      pub moves_on : s.at < seen.next
       moves_on = n.moves (goes_on c.reading seen.token seen.place (acted c.reading act) goes)
 
-      pub stands_on : (s' : State) (work' due' least' : List ℕ) → most_jobs ≤ length work → most_jobs ≤ length due → 32 ≤ length least → Acts s act work due least s' work' due' least' → Stands file seen.next s' work' due' least'
+      pub stands_on : (s' s'' : State) → Long s → Acts s act s' → Lent s s' → s'' ≡ record s' { at = seen.next } → Stands s''
       unfolding after
-      stands_on s' work' due' least' lw ld ll a = record {
+      stands_on s' s'' long a lent q = subst Stands (sym q) (record {
         reading = acted c.reading act;
         sound = follows_is (go (acted c.reading act)) on_is;
-        holds = a c.reading c.sound lw ld ll c.holds;
-        same = ap (reads (acted c.reading act)) (sym (behind_on seen.token (tokens_at file seen.next) (goes_on c.reading seen.token seen.place (acted c.reading act) goes))) ∙ outcome_is (go (acted c.reading act)) on_is;
-        inside = (n.inside c.inside).1;
-      }
+        holds = a c.reading c.sound long c.holds;
+        same =
+            ap (λ (f : List ℕ). reads (acted c.reading act) (tokens_at f seen.next)) lent.same_file
+            ∙ ap (reads (acted c.reading act)) (sym (behind_on seen.token (tokens_at s.file.now seen.next) (goes_on c.reading seen.token seen.place (acted c.reading act) goes)))
+            ∙ outcome_is (go (acted c.reading act)) on_is
+            ∙ ap order_of (sym lent.same_file);
+        inside = omega (arith, (n.inside c.inside).1, ap length lent.same_file);
+      })

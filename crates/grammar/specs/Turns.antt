@@ -1,5 +1,5 @@
 -- What the reader's state and turns mean in the definition's terms.
-use Rattle.std.specs.Prelude.{◌≡◌, List, [], ◌∷◌, ◌++◌, ℕ, ◌+◌, ◌-◌, ◌≤◌, min, length, take, get_or, eqb}
+use Rattle.std.specs.Prelude.{◌≡◌, Result, Ok, Err, List, [], ◌∷◌, ◌++◌, ℕ, ◌+◌, ◌-◌, ◌≤◌, min, length, take, get_or, eqb}
 use Rattle.rules.specs.declared.Token.{Token}
 use Rattle.rules.specs.declared.Token.TheVariants.{Open, Close, Atom, End, Foreign}
 use Rattle.rules.specs.declared.Wanted.{Wanted}
@@ -7,14 +7,16 @@ use Rattle.rules.specs.declared.Wanted.TheVariants.{OrderOpen, OrderWord, Boards
 use Rattle.rules.specs.declared.Refusal.{Refusal}
 use Rattle.rules.specs.declared.OrderRead.{OrderRead}
 use Rattle.rules.specs.declared.Refusal.TheVariants.{ForeignByte, NotAllowed, Unclosed}
-use Rattle.rules.specs.Basics.{pick, most_jobs, most_levels, most_bytes}
+use Rattle.refusals.specs.declared.Fault.{Fault}
+use Rattle.rules.specs.Refusals.{number_of}
+use Rattle.rules.specs.Basics.{pick, most_jobs, most_levels}
 use Rattle.rules.specs.Orders.{Reading, Step, go, stop, done, Outcome, refused, accepted, least_due, step_at, reads, order_of, ReadAnswer}
 use Rattle.lexer.specs.Scan.{tokens_at}
 use Rattle.grammar.specs.declared.State.{State}
 use Rattle.grammar.specs.declared.Turn.{Turn}
-use Rattle.grammar.specs.declared.Turn.TheVariants.{Want, Take, Leave, Stop, Done}
-use Rattle.grammar.specs.declared.Ended.{Ended}
-use Rattle.grammar.specs.declared.Ended.TheVariants.{Refused, Accepted}
+use Rattle.grammar.specs.declared.Turn.TheVariants.{Want, Take, Leave, Done}
+use Rattle.grammar.specs.declared.Stop.{Stop}
+use Rattle.grammar.specs.declared.Order.{Order}
 
 unfoldable pub misplaced_as : Token → Refusal
 misplaced_as Open = NotAllowed
@@ -45,22 +47,24 @@ unfoldable pub acted : Reading → Turn → Reading
 acted r (Want w) = record { wanted = w; boards = r.boards; groups = r.groups; works = r.works; dues = r.dues }
 acted r (Take n) = taken r.wanted r n
 acted r Leave = left r r.groups
-acted r (Stop refusal place) = r
 acted r Done = r
 
-unfoldable pub meant : Reading → Turn → Step
-meant r (Want w) = go (acted r (Want w))
-meant r (Take n) = go (acted r (Take n))
-meant r Leave = go (acted r Leave)
-meant r (Stop refusal place) = stop refusal place
-meant r Done = done
+unfoldable pub turned : Reading → Turn → Step
+turned r (Want w) = go (acted r (Want w))
+turned r (Take n) = go (acted r (Take n))
+turned r Leave = go (acted r Leave)
+turned r Done = done
+
+-- what is decided of a token
+unfoldable pub meant : Reading → Result Turn Stop → Step
+meant r (Ok turn) = turned r turn
+meant r (Err halt) = stop halt.refusal halt.place
 
 -- a turn that does not end the reading
 abbrev pub Goes : Turn → Type 0
 Goes (Want w) = Unit {0}
 Goes (Take n) = Unit {0}
 Goes Leave = Unit {0}
-Goes (Stop refusal place) = ⊥
 Goes Done = ⊥
 
 -- ---- what the state and the lists hold of a reading
@@ -72,14 +76,17 @@ abbrev pub Held : List ℕ → List ℕ → Type 0
 Held [] least = Unit {0}
 Held (g ∷ gs) least = (get_or least (length gs) 0 ≡ least_due g gs) × Held gs least
 
-pub record Holds (r : Reading) (s : State) (work due least : List ℕ) : Type 0 where
-  pub as_wanted : r.wanted ≡ s.wanted
-  pub as_boards : r.boards ≡ s.boards
-  pub as_level : length r.groups ≡ s.level
-  pub as_jobs : length r.dues ≡ s.jobs
+pub record Shows (r : Reading) (wanted : Wanted) (boards level jobs : ℕ) (work due least : List ℕ) : Type 0 where
+  pub as_wanted : r.wanted ≡ wanted
+  pub as_boards : r.boards ≡ boards
+  pub as_level : length r.groups ≡ level
+  pub as_jobs : length r.dues ≡ jobs
   pub front_works : take (length r.works) work ≡ r.works
   pub front_dues : take (length r.dues) due ≡ r.dues
   pub held : Held r.groups least
+
+abbrev pub Holds : Reading → State → Type 0
+Holds r s = Shows r s.wanted s.boards s.level s.jobs s.work.now s.due.now s.least.now
 
 -- The limits that a reading keeps: where a group's due is wanted there is room for a level, where a job's work is wanted
 -- for a job, and a work is read before its due.
@@ -125,49 +132,89 @@ pub record Sound (r : Reading) : Type 0 where
   pub pairs : length r.works ≡ length r.dues + half r.wanted
 
 -- ---- what the functions say
--- The turn is the definition's step, for each reading that the state stands for.
-abbrev pub Decides : State → Token → ℕ → Turn → Type 0
-Decides s t p turn = (r : Reading) → Sound r → r.wanted ≡ s.wanted → length r.groups ≡ s.level → length r.dues ≡ s.jobs → step_at r.wanted r t p ≡ meant r turn
+-- What is decided is the definition's step, for each reading that the state stands for.
+abbrev pub Decides : State → Token → ℕ → Result Turn Stop → Type 0
+Decides s t p decided = (r : Reading) → Sound r → r.wanted ≡ s.wanted → length r.groups ≡ s.level → length r.dues ≡ s.jobs → step_at r.wanted r t p ≡ meant r decided
 
--- State and lists are changed as the turn changes the reading.
-abbrev pub Acts : State → Turn → List ℕ → List ℕ → List ℕ → State → List ℕ → List ℕ → List ℕ → Type 0
-Acts s t work due least s' work' due' least' =
-    (r : Reading) → Sound r → most_jobs ≤ length work → most_jobs ≤ length due → 32 ≤ length least → Holds r s work due least → Holds (acted r t) s' work' due' least'
+-- the lists are long enough
+pub record Long (s : State) : Type 0 where
+  pub long_work : most_jobs ≤ length s.work.now
+  pub long_due : most_jobs ≤ length s.due.now
+  pub long_least : most_levels ≤ length s.least.now
 
--- The state alone is.
+-- the same file and the same lists, each as long as before
+pub record Lent (s s' : State) : Type 0 where
+  pub same_file : s'.file.now ≡ s.file.now
+  pub same_work : s'.work.ghost_name ≡ s.work.ghost_name
+  pub same_due : s'.due.ghost_name ≡ s.due.ghost_name
+  pub length_work : length s'.work.now ≡ length s.work.now
+  pub length_due : length s'.due.now ≡ length s.due.now
+  pub length_least : length s'.least.now ≡ length s.least.now
+
+-- The state is changed as the turn changes the reading.
+abbrev pub Acts : State → Turn → State → Type 0
+Acts s t s' = (r : Reading) → Sound r → Long s → Holds r s → Holds (acted r t) s'
+
+-- The counts alone are changed, as the turn changes a reading, whatever the lists hold.
 abbrev pub Changes : State → Turn → State → Type 0
-Changes s t s' = (r : Reading) (work due least : List ℕ) → Holds r s work due least → Holds (acted r t) s' work due least
+Changes s t s' =
+    (r : Reading) (work due least : List ℕ) → Shows r s.wanted s.boards s.level s.jobs work due least → Shows (acted r t) s'.wanted s'.boards s'.level s'.jobs work due least
+
+-- the place and what the lists hold stay as they were
+pub record Untouched (s s' : State) : Type 0 where
+  pub same_at : s'.at ≡ s.at
+  pub as_work : s'.work.now ≡ s.work.now
+  pub as_due : s'.due.now ≡ s.due.now
+  pub as_least : s'.least.now ≡ s.least.now
 
 -- How a file is read: the refusal, or the boards and the lists at the front of the buffers.
-abbrev pub Finished : List ℕ → Ended → List ℕ → List ℕ → Type 0
-Finished file (Refused refusal place) work due = (order_of file ≡ refused refusal place) × (place ≤ length file)
-Finished file (Accepted boards jobs) work due = (order_of file ≡ accepted boards (take jobs work) (take jobs due)) × (jobs ≤ most_jobs)
+abbrev pub Finished : List ℕ → Result Order Fault → List ℕ → List ℕ → Type 0
+Finished file (Err fault) work due = (order_of file ≡ refused fault.refusal fault.place) × (fault.place ≤ length file)
+Finished file (Ok order) work due = (order_of file ≡ accepted order.boards (take order.jobs work) (take order.jobs due)) × (order.jobs ≤ most_jobs)
 
 -- no count is so large that one more does not fit
 pub record Bounded (s : State) : Type 0 where
   pub few_levels : s.level ≤ most_levels
   pub few_jobs : s.jobs ≤ most_jobs
 
--- Where the loop stands before the token at `at`: the state and the lists hold a reading, and what is still to be read
--- from it is what is to be read from the start.
-pub record Stands (file : List ℕ) (at : ℕ) (s : State) (work due least : List ℕ) : Type 0 where
+-- Where the reader stands before the token at `at`: the state holds a reading, and what is still to be read from it is what is
+-- to be read from the start.
+pub record Stands (s : State) : Type 0 where
   pub reading : Reading
   pub sound : Sound reading
-  pub holds : Holds reading s work due least
-  pub same : reads reading (tokens_at file at) ≡ order_of file
-  pub inside : at ≤ length file
+  pub holds : Holds reading s
+  pub same : reads reading (tokens_at s.file.now s.at) ≡ order_of s.file.now
+  pub inside : s.at ≤ length s.file.now
+
+-- at the start of a file
+pub record Starts (s : State) (file work due least : List ℕ) : Type 0 where
+  pub stands : Stands s
+  pub place : s.at ≡ 0
+  pub wanted : s.wanted ≡ OrderOpen
+  pub boards : s.boards ≡ 0
+  pub jobs : s.jobs ≡ 0
+  pub level : s.level ≡ 0
+  pub file_is : s.file.now ≡ file
+  pub work_is : s.work.now ≡ work
+  pub due_is : s.due.now ≡ due
+  pub least_is : s.least.now ≡ least
 
 -- what an end says of the buffers as they then are
-unfoldable pub outcome_of : Ended → List ℕ → List ℕ → Outcome
-outcome_of (Refused refusal place) work due = refused refusal place
-outcome_of (Accepted boards jobs) work due = accepted boards (take jobs work) (take jobs due)
+unfoldable pub outcome_of : Result Order Fault → List ℕ → List ℕ → Outcome
+outcome_of (Err fault) work due = refused fault.refusal fault.place
+outcome_of (Ok order) work due = accepted order.boards (take order.jobs work) (take order.jobs due)
 
--- its numbers fit the answer
-abbrev pub Writable : Ended → List ℕ → List ℕ → Type 0
-Writable (Refused refusal place) work due = place ≤ most_bytes
-Writable (Accepted boards jobs) work due = (jobs ≤ most_jobs) × (most_jobs ≤ length work) × (most_jobs ≤ length due)
+-- the lists that it names are there
+abbrev pub Writable : Result Order Fault → List ℕ → List ℕ → Type 0
+Writable (Err fault) work due = Unit {0}
+Writable (Ok order) work due = (order.jobs ≤ length work) × (order.jobs ≤ length due)
 
-pub record Answers (a : ReadAnswer) (r : OrderRead) (work due : List ℕ) : Type 0 where
-  pub said : r ≡ a.said
+-- what it says in numbers
+unfoldable pub said_of : Result Order Fault → OrderRead
+said_of (Err fault) = record { refusal = number_of fault.refusal; place = fault.place; boards = 0; jobs = 0 }
+said_of (Ok order) = record { refusal = 0; place = 0; boards = order.boards; jobs = order.jobs }
+
+pub record Answers (a : ReadAnswer) (ended : Result Order Fault) (work due : List ℕ) : Type 0 where
+  pub said : said_of ended ≡ a.said
   pub works : work ≡ a.work
   pub dues : due ≡ a.due

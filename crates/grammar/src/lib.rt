@@ -1,16 +1,16 @@
-// One token's turn of the order grammar, and the reader's answer: what the reader that ships and the pair of readers share.
-// The state is small and goes by value. The works and dues read so far stand at the front of the buffers, and for each
-// group round the place the least due of it and of the groups round it stands in an array of 32.
-// The idea of the proof: the state stands for a `Reading` of the definition; a turn means one of the definition's steps, and
-// acting on it changes state and lists as it changes the reading.
+// One token's turn of the order grammar, and what is left in the buffers: what the reader that ships and the pair of readers
+// share. The works and dues read so far stand at the front of the buffers, and for each group round the place the least due
+// of it and of the groups round it stands in a list of 32. The idea of the proof: the state stands for a `Reading` of the
+// definition; a turn means one of the definition's steps, and acting on it changes the state as it changes the reading.
 #![tactic(auto)]
 
-ghost use Rattle.std.specs.Prelude.{◌≡◌, List, ◌++◌, ℕ, ◌-◌, ◌<◌, min, eqb, ltb, length, take, get_or, set};
-ghost use Rattle.rules.specs.Basics.{pick, zeros, most_jobs, most_levels};
-ghost use Rattle.rules.specs.Orders.{Reading, go, stop, done, want, bracket, word, number, ending, refused_read, after_reading};
-ghost use Rattle.grammar.specs.Turns.{acted, meant, misplaced_as, capped, Decides, Acts, Changes, Bounded, Writable, Answers, outcome_of};
+ghost use Rattle.std.specs.Prelude.{◌≡◌, Result, Ok, Err, List, ℕ, ◌≤◌, eqb, ltb, length, get_or, set};
+ghost use Rattle.rules.specs.Basics.{pick, most_jobs, most_levels};
+ghost use Rattle.rules.specs.Orders.{Reading, go, stop, done, want, bracket, word, number, ending, after_reading};
+ghost use Rattle.grammar.specs.Turns.{acted, meant, misplaced_as, capped, said_of, Decides, Acts, Changes, Untouched, Lent, Starts, Bounded, Writable, Answers, outcome_of};
 
-use refusals::number;
+use lists::clear_from;
+use refusals::Fault;
 use rules::{OrderRead, Refusal, Token, Wanted, Word};
 
 // 01: "level 32 is the deepest".
@@ -19,35 +19,68 @@ const MOST_LEVELS: usize = 32;
 // 01: 7, "a 1,001st job".
 const MOST_JOBS: usize = 1000;
 
-// Where the reader stands.
+// An order read whole: its boards, and how many jobs stand at the front of the buffers.
 #[derive(Clone, Copy)]
-pub struct State {
-    pub wanted: Wanted,
+pub struct Order {
     pub boards: u32,
-    pub level: usize,
-    pub jobs: usize,
+    pub jobs: u32,
 }
 
-// What one token leads to: on to the next thing wanted, with the number that was wanted, or out of the innermost group or the
-// order; or to the end, where a refusal comes with its place. One flat enum: the compiler stores an enum within an enum in
-// pieces and reads it back as one word, which made the reader half as slow again.
+// What the reader answers to an order that is accepted.
+impl From<Order> for OrderRead {
+    ghost from_gives = { λ order said. said ≡ said_of (Ok order) };
+
+    #[tactic(auto, unfolding(crate::specs::Turns::said_of))]
+    fn from(order: Order) -> OrderRead {
+        OrderRead {
+            refusal: 0,
+            place: 0,
+            boards: order.boards,
+            jobs: order.jobs,
+        }
+    }
+}
+
+// What one token leads to: on to the next thing wanted, with the number that was wanted, or out of the innermost group or
+// the order; or the order is read whole.
 #[derive(Clone, Copy)]
 pub enum Turn {
     Want(Wanted),
     Take(u32),
     Leave,
-    Stop(Refusal, usize),
     Done,
 }
 
-// How the reading ended: a refusal with its place, or boards and job count.
+// 01: "Boards run to 64; work and due to 1,000,000".
+const MOST_BOARDS: u32 = 64;
+
+const MOST_MINUTES: u32 = 1000000;
+
+// Why the reading stops, and at which byte.
 #[derive(Clone, Copy)]
-pub enum Ended {
-    Refused(Refusal, usize),
-    Accepted(u32, usize),
+pub struct Stop {
+    pub refusal: Refusal,
+    pub place: usize,
 }
 
-// Past the end of a list nothing is stored and 0 is read, so that no caller has to show a bound.
+// Where the reader stands in the file, and what it holds. No invariant: between a turn and the move of `at` behind its token
+// it holds no reading of the file. Each loan has a lifetime of its own, so that a proof knows what each list ends as. The
+// list of the least dues is lent too: as an array in here it made the reader a quarter slower.
+#[derive(Drop)]
+pub struct State<'f, 'w, 'd, 'l> {
+    pub file: &'f [u8],
+    pub at: usize,
+    pub wanted: Wanted,
+    pub boards: u32,
+    pub level: usize,
+    pub jobs: usize,
+    pub work: &'w mut [u32],
+    pub due: &'d mut [u32],
+    pub least: &'l mut [u32],
+}
+
+// Past the end of a list nothing is stored, so that no caller has to show a bound. Not by `get_mut`: of what is written
+// through that a proof knows the length alone.
 fn put(list: &mut [u32], at: usize, value: u32)
     ensures { list.new ≡ set list.old at value }
 {
@@ -56,296 +89,279 @@ fn put(list: &mut [u32], at: usize, value: u32)
     }
 }
 
-fn get(list: &[u32], at: usize) -> u32
-    ensures { result ≡ get_or list.now at 0 }
+fn stop_at(refusal: Refusal, place: usize) -> Stop
+    ensures { result ≡ record { refusal = refusal; place = place } }
 {
-    if at < list.len() {
-        return list[at];
-    }
-    0
-}
-
-// Zeros from `from` to the list's end.
-fn clear(list: &mut [u32], from: usize)
-    ensures { list.new ≡ take from list.old ++ zeros (length list.old - from) }
-{
-    let mut i = from;
-    while i < list.len() {
-        list[i] = 0;
-        i += 1;
-    }
-}
-
-// 01: "the least of its own and those of all groups round it"; the innermost group's entry is the least of all of them.
-fn least_due(due: u32, level: usize, least: &[u32]) -> u32
-    ensures { result ≡ capped due level least.now }
-{
-    if level == 0 {
-        return due;
-    }
-    let round = get(least, level - 1);
-    if due < round {
-        return due;
-    }
-    round
+    Stop { refusal, place }
 }
 
 // A token where another is wanted: 3 at the end, 1 at a foreign byte, 2 otherwise.
-fn misplaced(token: Token) -> Refusal
-    ensures { result ≡ misplaced_as token }
+#[tactic(auto, unfolding(crate::specs::Turns::misplaced_as))]
+fn misplaced(token: Token, place: usize) -> Stop
+    ensures { result ≡ record { refusal = misplaced_as token; place = place } }
 {
-    match token {
+    let refusal = match token {
         Token::Open => Refusal::NotAllowed,
         Token::Close => Refusal::NotAllowed,
         Token::Atom(_) => Refusal::NotAllowed,
         Token::End => Refusal::Unclosed,
         Token::Foreign => Refusal::ForeignByte,
-    }
+    };
+    stop_at(refusal, place)
 }
 
-fn bracket_wanted(token: Token, place: usize, opens: Turn, closes: Turn) -> Turn
+#[tactic(auto, using(crate::specs::Laws::bracket_misplaced), unfolding(rules::specs::Orders::bracket, crate::specs::Turns::meant))]
+fn bracket_wanted(
+    token: Token,
+    place: usize,
+    opens: Result<Turn, Stop>,
+    closes: Result<Turn, Stop>,
+) -> Result<Turn, Stop>
     ensures { (r : Reading) → meant r result ≡ bracket token place (meant r opens) (meant r closes) }
 {
     match token {
         Token::Open => opens,
         Token::Close => closes,
-        Token::Atom(_) => Turn::Stop(Refusal::NotAllowed, place),
-        Token::End => Turn::Stop(Refusal::Unclosed, place),
-        Token::Foreign => Turn::Stop(Refusal::ForeignByte, place),
+        _ => Err(misplaced(token, place)),
     }
 }
 
-fn word_wanted(token: Token, place: usize, order: Turn, group: Turn, job: Turn) -> Turn
+#[tactic(auto, using(crate::specs::Laws::word_misplaced), unfolding(rules::specs::Orders::word, rules::specs::Orders::atom_word, crate::specs::Turns::meant))]
+fn word_wanted(
+    token: Token,
+    place: usize,
+    order: Result<Turn, Stop>,
+    group: Result<Turn, Stop>,
+    job: Result<Turn, Stop>,
+) -> Result<Turn, Stop>
     ensures { (r : Reading) → meant r result ≡ word token place (meant r order) (meant r group) (meant r job) }
 {
     let Token::Atom(name) = token else {
-        return Turn::Stop(misplaced(token), place);
+        return Err(misplaced(token, place));
     };
     match name {
         Word::Order => order,
         Word::Group => group,
         Word::Job => job,
-        Word::Number(_) => Turn::Stop(Refusal::NotAllowed, place),
-        Word::Other => Turn::Stop(Refusal::NotAllowed, place),
+        _ => Err(misplaced(token, place)),
     }
 }
 
 // 01: "is refused where the grammar wants a number": 4 for an atom that is none, 2 for a bracket, 5 above the limit.
-fn number_wanted(token: Token, place: usize, limit: u32) -> Turn
+#[tactic(auto, using(crate::specs::Laws::number_misplaced, crate::specs::Laws::number_none), unfolding(crate::specs::Turns::meant))]
+fn number_wanted(token: Token, place: usize, limit: u32) -> Result<Turn, Stop>
     ensures { (r : Reading) → meant r result ≡ number limit token place (λ n. go (acted r (Turn.Take n))) }
 {
     let Token::Atom(name) = token else {
-        return Turn::Stop(misplaced(token), place);
+        return Err(misplaced(token, place));
     };
     let Word::Number(n) = name else {
-        return Turn::Stop(Refusal::NoNumber, place);
+        return Err(stop_at(Refusal::NoNumber, place));
     };
     if limit < n {
-        return Turn::Stop(Refusal::AboveLimit, place);
+        return Err(stop_at(Refusal::AboveLimit, place));
     }
-    Turn::Take(n)
+    Ok(Turn::Take(n))
 }
 
-fn end_wanted(token: Token, place: usize, ends: Turn) -> Turn
+#[tactic(auto, using(crate::specs::Laws::ending_misplaced), unfolding(rules::specs::Orders::ending, crate::specs::Turns::meant))]
+fn end_wanted(token: Token, place: usize, ends: Result<Turn, Stop>) -> Result<Turn, Stop>
     ensures { (r : Reading) → meant r result ≡ ending token place (meant r ends) }
 {
     match token {
         Token::End => ends,
-        Token::Open => Turn::Stop(Refusal::NotAllowed, place),
-        Token::Close => Turn::Stop(Refusal::NotAllowed, place),
-        Token::Atom(_) => Turn::Stop(Refusal::NotAllowed, place),
-        Token::Foreign => Turn::Stop(Refusal::ForeignByte, place),
+        other => Err(misplaced(other, place)),
     }
 }
 
-// 01: 6, "a group at level 33".
-fn group_begins(level: usize, place: usize) -> Turn
-    ensures { (r : Reading) → meant r result ≡ pick (ltb level most_levels) (want r Wanted.GroupDue) (stop Refusal.TooDeep place) }
+// 01: 6, "a group at level 33", and 7, "a 1,001st job": one more of what there may be so many of, or the refusal.
+#[tactic(auto, unfolding(rules::specs::Orders::want, crate::specs::Turns::meant, crate::specs::Turns::turned, crate::specs::Turns::acted))]
+fn begins(so_far: usize, most: usize, wanted: Wanted, full: Stop) -> Result<Turn, Stop>
+    ensures { (r : Reading) → meant r result ≡ pick (ltb so_far most) (want r wanted) (stop full.refusal full.place) }
 {
-    if level < MOST_LEVELS {
-        return Turn::Want(Wanted::GroupDue);
+    if so_far < most {
+        return Ok(Turn::Want(wanted));
     }
-    Turn::Stop(Refusal::TooDeep, place)
-}
-
-// 01: 7, "a 1,001st job".
-fn job_begins(jobs: usize, place: usize) -> Turn
-    ensures { (r : Reading) → meant r result ≡ pick (ltb jobs most_jobs) (want r Wanted.JobWork) (stop Refusal.TooManyJobs place) }
-{
-    if jobs < MOST_JOBS {
-        return Turn::Want(Wanted::JobWork);
-    }
-    Turn::Stop(Refusal::TooManyJobs, place)
+    Err(full)
 }
 
 // 01: 8, "a well-formed order without a job".
-fn order_ends(jobs: usize, place: usize) -> Turn
+#[tactic(auto, unfolding(crate::specs::Turns::meant, crate::specs::Turns::turned))]
+fn order_ends(jobs: usize, place: usize) -> Result<Turn, Stop>
     ensures { (r : Reading) → meant r result ≡ pick (eqb jobs 0) (stop Refusal.NoJob place) done }
 {
     if jobs == 0 {
-        return Turn::Stop(Refusal::NoJob, place);
+        return Err(stop_at(Refusal::NoJob, place));
     }
-    Turn::Done
+    Ok(Turn::Done)
 }
 
-// The grammar, a line for each thing that it can want.
-pub fn decide(state: State, token: Token, place: usize) -> Turn
-    ensures { Decides state token place result }
-{
-    let wanted = state.wanted;
-    let no = Turn::Stop(Refusal::NotAllowed, place);
-    match wanted {
-        Wanted::OrderOpen => bracket_wanted(token, place, Turn::Want(Wanted::OrderWord), no),
-        Wanted::OrderWord => word_wanted(token, place, Turn::Want(Wanted::Boards), no, no),
-        Wanted::Boards => number_wanted(token, place, 64),
-        Wanted::ItemOrClose => bracket_wanted(
-            token,
-            place,
-            Turn::Want(Wanted::ItemWord),
-            Turn::Leave,
-        ),
-        Wanted::ItemWord => word_wanted(
-            token,
-            place,
-            no,
-            group_begins(state.level, place),
-            job_begins(state.jobs, place),
-        ),
-        Wanted::GroupDue => number_wanted(token, place, 1000000),
-        Wanted::JobWork => number_wanted(token, place, 1000000),
-        Wanted::JobDue => number_wanted(token, place, 1000000),
-        Wanted::JobClose => bracket_wanted(token, place, no, Turn::Want(Wanted::ItemOrClose)),
-        Wanted::Finish => end_wanted(token, place, order_ends(state.jobs, place)),
-    }
-}
-
-pub fn want_next(state: State, wanted: Wanted) -> State
-    ensures { Changes state (Turn.Want wanted) result }
-{
-    State {
-        wanted,
-        boards: state.boards,
-        level: state.level,
-        jobs: state.jobs,
-    }
-}
-
-// `)` leaves the innermost group, or the order.
-pub fn leave(state: State) -> State
-    ensures { Changes state Turn.Leave result }
-{
-    let level = state.level;
-    if level == 0 {
-        return State {
-            wanted: Wanted::Finish,
-            boards: state.boards,
+impl<'f, 'w, 'd, 'l> State<'f, 'w, 'd, 'l> {
+    // At the file's first byte.
+    #[tactic(auto, using(crate::specs::Steps::stands_start))]
+    pub fn start(
+        file: &'f [u8],
+        work: &'w mut [u32],
+        due: &'d mut [u32],
+        least: &'l mut [u32],
+    ) -> State<'f, 'w, 'd, 'l>
+        ensures work { result.work.ghost_name ≡ work.entry.ghost_name }
+        ensures due { result.due.ghost_name ≡ due.entry.ghost_name }
+        ensures starts { Starts result file.now work.old due.old least.old }
+    {
+        State {
+            file,
+            at: 0,
+            wanted: Wanted::OrderOpen,
+            boards: 0,
             level: 0,
-            jobs: state.jobs,
-        };
+            jobs: 0,
+            work,
+            due,
+            least,
+        }
     }
-    State {
-        wanted: Wanted::ItemOrClose,
-        boards: state.boards,
-        level: level - 1,
-        jobs: state.jobs,
-    }
-}
 
-// A number, taken for what was wanted: the boards, a group's due, a job's work or a job's due.
-pub fn take_in(state: State, n: u32, work: &mut [u32], due: &mut [u32], least: &mut [u32]) -> State
-    requires { Bounded state }
-    ensures { Acts state (Turn.Take n) work.old due.old least.old result work.new due.new least.new }
-{
-    let wanted = state.wanted;
-    let boards = state.boards;
-    let level = state.level;
-    let jobs = state.jobs;
-    match wanted {
-        Wanted::Boards => State {
-            wanted: Wanted::ItemOrClose,
-            boards: n,
-            level,
-            jobs,
-        },
-        Wanted::GroupDue => {
-            let round = least_due(n, level, least);
-            put(least, level, round);
-            State {
-                wanted: Wanted::ItemOrClose,
-                boards,
-                level: level + 1,
-                jobs,
-            }
+    // 01: "the least of its own and those of all groups round it"; the innermost group's entry is the least of all of them.
+    #[tactic(auto, using(crate::specs::Laws::capped_none, crate::specs::Laws::capped_round))]
+    fn least_due(&self, due: u32) -> u32
+        ensures { result ≡ capped due self.now.level self.now.least.now }
+    {
+        if self.level == 0 {
+            return due;
         }
-        Wanted::JobWork => {
-            put(work, jobs, n);
-            State {
-                wanted: Wanted::JobDue,
-                boards,
-                level,
-                jobs,
+        let round = self.least.get(self.level - 1).copied().unwrap_or(0);
+        due.min(round)
+    }
+
+    // An item's word: a group or a job begins.
+    #[tactic(auto, unfolding(crate::specs::Turns::meant))]
+    fn item_wanted(&self, token: Token, place: usize) -> Result<Turn, Stop>
+        ensures { (r : Reading) → meant r result ≡ word token place (stop Refusal.NotAllowed place)
+            (pick (ltb self.now.level most_levels) (want r Wanted.GroupDue) (stop Refusal.TooDeep place))
+            (pick (ltb self.now.jobs most_jobs) (want r Wanted.JobWork) (stop Refusal.TooManyJobs place)) }
+    {
+        let no = stop_at(Refusal::NotAllowed, place);
+        let deep = stop_at(Refusal::TooDeep, place);
+        let many = stop_at(Refusal::TooManyJobs, place);
+        let group = begins(self.level, MOST_LEVELS, Wanted::GroupDue, deep);
+        let job = begins(self.jobs, MOST_JOBS, Wanted::JobWork, many);
+        word_wanted(token, place, Err(no), group, job)
+    }
+
+    // The grammar, a line for each thing that it can want.
+    #[tactic(auto, using(crate::specs::Laws::leave_left, crate::specs::Laws::empty_is, crate::specs::Laws::whole_jobs), unfolding(rules::specs::Orders::step_at, rules::specs::Orders::want, crate::specs::Turns::meant, crate::specs::Turns::turned, crate::specs::Turns::acted, crate::specs::Turns::taken, crate::specs::Turns::half))]
+    pub fn decide(&self, token: Token, place: usize) -> Result<Turn, Stop>
+        ensures { Decides self.now token place result }
+    {
+        let no = Err(stop_at(Refusal::NotAllowed, place));
+        match self.wanted {
+            Wanted::OrderOpen => bracket_wanted(
+                token,
+                place,
+                Ok(Turn::Want(Wanted::OrderWord)),
+                no,
+            ),
+            Wanted::OrderWord => word_wanted(token, place, Ok(Turn::Want(Wanted::Boards)), no, no),
+            Wanted::Boards => number_wanted(token, place, MOST_BOARDS),
+            Wanted::ItemOrClose => {
+                bracket_wanted(
+                    token,
+                    place,
+                    Ok(Turn::Want(Wanted::ItemWord)),
+                    Ok(Turn::Leave),
+                )
             }
-        }
-        Wanted::JobDue => {
-            let own = least_due(n, level, least);
-            put(due, jobs, own);
-            State {
-                wanted: Wanted::JobClose,
-                boards,
-                level,
-                jobs: jobs + 1,
+            Wanted::ItemWord => self.item_wanted(token, place),
+            Wanted::GroupDue | Wanted::JobWork | Wanted::JobDue => {
+                number_wanted(token, place, MOST_MINUTES)
             }
+            Wanted::JobClose => bracket_wanted(
+                token,
+                place,
+                no,
+                Ok(Turn::Want(Wanted::ItemOrClose)),
+            ),
+            Wanted::Finish => end_wanted(token, place, order_ends(self.jobs, place)),
         }
-        _ => state,
+    }
+
+    pub fn want_next(&mut self, wanted: Wanted)
+        ensures lent { Lent self.old self.new }
+        ensures changes { Changes self.old (Turn.Want wanted) self.new }
+        ensures stays { Untouched self.old self.new }
+    {
+        self.wanted = wanted;
+    }
+
+    // `)` leaves the innermost group, or the order.
+    pub fn leave(&mut self)
+        ensures lent { Lent self.old self.new }
+        ensures changes { Changes self.old Turn.Leave self.new }
+        ensures stays { Untouched self.old self.new }
+    {
+        if self.level == 0 {
+            self.wanted = Wanted::Finish;
+            return;
+        }
+        self.level -= 1;
+        self.wanted = Wanted::ItemOrClose;
+    }
+
+    // A number, taken for what was wanted: the boards, a group's due, a job's work or a job's due.
+    pub fn take_in(&mut self, n: u32)
+        requires { Bounded self.old }
+        ensures lent { Lent self.old self.new }
+        ensures acts { Acts self.old (Turn.Take n) self.new }
+        ensures place { self.new.at ≡ self.old.at }
+    {
+        match self.wanted {
+            Wanted::Boards => {
+                self.boards = n;
+                self.wanted = Wanted::ItemOrClose;
+            }
+            Wanted::GroupDue => {
+                let round = self.least_due(n);
+                put(self.least, self.level, round);
+                self.level += 1;
+                self.wanted = Wanted::ItemOrClose;
+            }
+            Wanted::JobWork => {
+                put(self.work, self.jobs, n);
+                self.wanted = Wanted::JobDue;
+            }
+            Wanted::JobDue => {
+                let own = self.least_due(n);
+                put(self.due, self.jobs, own);
+                self.jobs += 1;
+                self.wanted = Wanted::JobClose;
+            }
+            _ => {}
+        }
+    }
+
+    // What was read, once it is read whole.
+    pub fn order(&self) -> Order
+        requires { Bounded self.now }
+        ensures { result ≡ record { boards = self.now.boards; jobs = self.now.jobs } }
+    {
+        Order {
+            boards: self.boards,
+            jobs: self.jobs as u32,
+        }
     }
 }
 
 // 01, Reader: the lists at the front and zeros to the ends, or both buffers all zero. Each buffer is cleared once.
-pub fn answer(ended: Ended, work: &mut [u32], due: &mut [u32]) -> OrderRead
+pub fn clear_behind(ended: Result<Order, Fault>, work: &mut [u32], due: &mut [u32])
     requires { Writable ended work.old due.old }
-    ensures { Answers (after_reading (outcome_of ended work.old due.old) work.old due.old) result work.new due.new }
+    ensures { Answers (after_reading (outcome_of ended work.old due.old) work.old due.old) ended work.new due.new }
 {
-    match ended {
-        Ended::Refused(refusal, place) => {
-            clear(work, 0);
-            clear(due, 0);
-            OrderRead {
-                refusal: number(refusal),
-                place: place as u32,
-                boards: 0,
-                jobs: 0,
-            }
-        }
-        Ended::Accepted(boards, jobs) => {
-            clear(work, jobs);
-            clear(due, jobs);
-            OrderRead {
-                refusal: 0,
-                place: 0,
-                boards,
-                jobs: jobs as u32,
-            }
-        }
-    }
-}
-
-pub fn smaller(a: usize, b: usize) -> usize
-    ensures { result ≡ min a b }
-{
-    if a < b {
-        return a;
-    }
-    b
-}
-
-// 01: 10 and 11 touch nothing.
-pub fn untouched(refusal: Refusal) -> OrderRead
-    ensures { (work due : List ℕ) → result ≡ (refused_read refusal 0 work due).said }
-{
-    OrderRead {
-        refusal: number(refusal),
-        place: 0,
-        boards: 0,
-        jobs: 0,
-    }
+    // `as`, here and in `order`, goes to or from `usize`: the proof shows that the number fits.
+    let kept = match ended {
+        Ok(order) => order.jobs as usize,
+        Err(_) => 0,
+    };
+    clear_from(work, kept);
+    clear_from(due, kept);
 }

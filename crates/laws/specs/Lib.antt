@@ -3,3 +3,5 @@ pub mod Tests
 pub mod Decimal
 pub mod Stores
 pub mod Rows
+pub mod Found
+pub mod Meant

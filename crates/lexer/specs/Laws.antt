@@ -1,55 +1,26 @@
 -- Laws of bytes, words and tokens, for the proofs to cite.
-use Rattle.std.specs.Prelude.{◌≡◌, refl, Bool, true, false, not, ◌&&◌, ◌||◌, List, [], ◌∷◌, ◌++◌, ℕ, suc, ◌+◌, ◌*◌, ◌-◌, ◌^◌, ◌≤◌, ◌<◌, length, take, drop, get_or, leb, eqb}
-use Rattle.std.proofs.Common.{sym, ap, ◌∙◌, true≢false, inl, inr, pow-suc, lt_of_le_of_lt, add-one, arith, length-drop, drop_of_length-le, drop-cons, take-suc, get_or-drop, lit<, le-leb, eqb-true, eq-eqb, ne_eqb}
+use Rattle.std.specs.Prelude.{◌≡◌, refl, Bool, true, false, not, ◌&&◌, ◌||◌, List, [], ◌∷◌, ◌++◌, ℕ, zero, suc, ◌+◌, ◌*◌, ◌-◌, ◌^◌, ◌≤◌, ◌<◌, max, length, take, drop, get_or, leb, ltb, eqb}
+use Rattle.std.proofs.Common.{sym, ap, ◌∙◌, inl, inr, pow-suc, lt_of_le_of_lt, add-one, arith, length-drop, drop_of_length-le, drop-cons, take-suc, get_or-drop, lit<, eqb-true, eq-eqb, ne_eqb, ltb-true, ltb-false}
 use Rattle.std.proofs.Math.Nat.{pow-le-pow_right}
 use Rattle.std.proofs.lemmas.Bool.{lt-leb}
+use lib.Pointwise.{pointwise}
+use Rattle.std.specs.List.{list_all}
 use Rattle.rules.specs.declared.Word.TheVariants.{Order, Group, Job, Number, Other}
 use Rattle.rules.specs.declared.Token.{Token}
 use Rattle.rules.specs.declared.Token.TheVariants.{Open, Close, Atom, End, Foreign}
 use Rattle.rules.specs.Basics.{pick, is_empty, every, within, text, most_digits}
 use Rattle.rules.specs.Tokens.{Placed, is_number, is_digit, is_letter_or_digit, is_blank, value_from, same, kind, between, closing, tokens_from}
-use Rattle.laws.specs.Tests.{pick_yes, pick_no, or_cases, and_left, and_right, and_no_left, and_no_right, within_yes, within_low, within_high}
-use Rattle.lexer.specs.Scan.{tokens_at, is_last, behind, placed, NextToken, BlanksSkipped}
+use Rattle.laws.specs.Tests.{decided, pick_yes, pick_no, or_cases, and_left, and_right, and_no_left, and_no_right, within_yes, within_low, within_high}
+use Rattle.lexer.specs.Scan.{tokens_at, is_last, behind, placed, NextToken, BlanksSkipped, AtomRead, RunEnd}
 
 -- ---- bytes
 pub digit_below : (b : ℕ) → b < 48 → is_digit b ≡ false
 unfolding is_digit within
 digit_below b h = and_no_left (leb 48 b) (leb b 57) (lt-leb 48 b h)
 
-pub digit_from : (b : ℕ) → 48 ≤ b → is_digit b ≡ leb b 57
-unfolding is_digit within
-digit_from b h = ap (λ (t : Bool). t && leb b 57) (le-leb 48 b h)
-
-pub digit_low : (b : ℕ) → is_digit b ≡ true → 48 ≤ b
-unfolding is_digit
-digit_low b e = within_low 48 57 b e
-
-pub digit_high : (b : ℕ) → is_digit b ≡ true → b ≤ 57
-unfolding is_digit
-digit_high b e = within_high 48 57 b e
-
 pub letter_below : (b : ℕ) → b < 97 → is_letter_or_digit b ≡ is_digit b
 unfolding is_letter_or_digit within
 letter_below b h = ap (λ (t : Bool). (t && leb b 122) || is_digit b) (lt-leb 97 b h)
-
-or_false : (a : Bool) → (a || false) ≡ a
-or_false true = refl
-or_false false = refl
-
-pub letter_from : (b : ℕ) → 97 ≤ b → is_letter_or_digit b ≡ leb b 122
-unfolding is_letter_or_digit within
-letter_from b h =
-    ap (λ (t : Bool). (t && leb b 122) || is_digit b) (le-leb 97 b h)
-    ∙ ap (λ (t : Bool). leb b 122 || t) (digit_from b (omega arith) ∙ lt-leb b 57 (omega arith))
-    ∙ or_false (leb b 122)
-
-pub blank_yes : (b : ℕ) → b ≡ 32 → is_blank b ≡ true
-unfolding is_blank
-blank_yes b e = ap (λ (t : Bool). t || eqb b 10) (eq-eqb b 32 e)
-
-pub blank_no : (b : ℕ) → (b ≡ 32 → ⊥) → is_blank b ≡ eqb b 10
-unfolding is_blank
-blank_no b n = ap (λ (t : Bool). t || eqb b 10) (ne_eqb b 32 n)
 
 -- no byte of a kind of its own is a letter or a digit
 pub no_letter : (b : ℕ) → b < 48 → is_letter_or_digit b ≡ false
@@ -60,36 +31,24 @@ unfolding is_blank
 blank_no_letter b e =
     elim (or_cases (eqb b 32) (eqb b 10) e) [ inl h ↦ no_letter b (omega (arith, eqb-true b 32 h)) | inr h ↦ no_letter b (omega (arith, eqb-true b 10 h)) ]
 
--- ---- words: a loop over a word from its start, where the answer from here is the answer from the start
-pub same_no_length : (a b : List ℕ) → (length a ≡ length b → ⊥) → same a b ≡ false
+-- ---- words
+pointwise_same : (a b : List ℕ) → pointwise eqb a b ≡ same a b
 unfolding same
-same_no_length [] [] h = absurd (h refl)
-same_no_length [] (y ∷ b) h = refl
-same_no_length (x ∷ a) [] h = refl
-same_no_length (x ∷ a) (y ∷ b) h = ap (λ (t : Bool). eqb x y && t) (same_no_length a b (λ e. h (ap suc e))) ∙ and_false (eqb x y)
-  where
-    and_false : (t : Bool) → (t && false) ≡ false
-    and_false true = refl
-    and_false false = refl
+pointwise_same [] [] = refl
+pointwise_same [] (y ∷ b) = refl
+pointwise_same (x ∷ a) [] = refl
+pointwise_same (x ∷ a) (y ∷ b) = ap (λ (t : Bool). eqb x y && t) (pointwise_same a b)
 
-pub same_end : (a b : List ℕ) (i : ℕ) → length a ≤ i → length a ≡ length b → same (drop i a) (drop i b) ≡ true
-unfolding same
-same_end a b i h e = rw (drop_of_length-le a {i = i} h, drop_of_length-le b {i = i} (omega arith))
+-- what `==` said of a word and a text
+pub told : (w text : List ℕ) {part : List ℕ} {r answer : Bool} → r ≡ pointwise eqb w part → part ≡ text → r ≡ answer → same w text ≡ answer
+told w text e p a = sym (pointwise_same w text) ∙ sym (ap (pointwise eqb w) p) ∙ sym e ∙ a
 
-pub same_step : (a b : List ℕ) (i : ℕ) → i < length a → length a ≡ length b → same (drop i a) (drop i b) ≡ (eqb (get_or a i 0) (get_or b i 0) && same (drop (i + 1) a) (drop (i + 1) b))
-unfolding same
-same_step a b i h e =
-    let k : i < length b = omega arith in
-    rw (add-one, drop-cons a i 0 h, drop-cons b i 0 k)
-
-pub every_end : (p : ℕ → Bool) (w : List ℕ) (i : ℕ) → length w ≤ i → every p (drop i w) ≡ true
+pub all_every : (p : ℕ → Bool) (w : List ℕ) → list_all p w ≡ every p w
 unfolding every
-every_end p w i h = rw (drop_of_length-le w {i = i} h)
+all_every p [] = refl
+all_every p (x ∷ w) = ap (λ (t : Bool). p x && t) (all_every p w)
 
-pub every_step : (p : ℕ → Bool) (w : List ℕ) (i : ℕ) → i < length w → every p (drop i w) ≡ (p (get_or w i 0) && every p (drop (i + 1) w))
-unfolding every
-every_step p w i h = rw (add-one, drop-cons w i 0 h)
-
+-- a loop over a word from its start, where the answer from here is the answer from the start
 pub value_end : (n : ℕ) (w : List ℕ) (i : ℕ) → length w ≤ i → value_from n (drop i w) ≡ n
 unfolding value_from
 value_end n w i h = rw (drop_of_length-le w {i = i} h)
@@ -210,10 +169,6 @@ value_fits i n d h k l =
     let m : 10 ^ i ≤ 10 ^ 6 = pow-le-pow_right (lit< tt) j in
     (omega arith, omega arith)
 
-pub and_first : (a b : Bool) (r : Bool) → (a && b) ≡ r → a ≡ true → b ≡ r
-and_first true b r e h = e
-and_first false b r e h = absurd (true≢false (sym h))
-
 pub number_long : (w : List ℕ) → 7 < length w → is_number w ≡ false
 unfolding is_number within
 number_long w h = and_no_left _ _ (ap (λ (t : Bool). leb 1 (length w) && t) (lt-leb (length w) 7 h) ∙ and_no_right (leb 1 (length w)) false refl)
@@ -245,11 +200,18 @@ pub number_all : (w : List ℕ) → is_number w ≡ true → every is_digit w �
 unfolding is_number
 number_all w e = and_left (every is_digit w) (not (eqb (get_or w 0 0) 48)) (and_right (within 1 most_digits (length w)) (every is_digit w && not (eqb (get_or w 0 0) 48)) e)
 
-pub every_first : (p : ℕ → Bool) (w : List ℕ) (i : ℕ) → i < length w → every p (drop i w) ≡ true → p (get_or w i 0) ≡ true
-every_first p w i h e = and_left (p (get_or w i 0)) (every p (drop (i + 1) w)) (sym (every_step p w i h) ∙ e)
+pub every_at : (p : ℕ → Bool) (w : List ℕ) (i : ℕ) → every p w ≡ true → i < length w → p (get_or w i 0) ≡ true
+unfolding every
+every_at p [] i e h = absurd (omega arith)
+every_at p (x ∷ w) zero e h = and_left (p x) (every p w) e
+every_at p (x ∷ w) (suc i) e h = every_at p w i (and_right (p x) (every p w) e) (omega arith)
 
-pub every_rest : (p : ℕ → Bool) (w : List ℕ) (i : ℕ) → i < length w → every p (drop i w) ≡ true → every p (drop (i + 1) w) ≡ true
-every_rest p w i h e = and_right (p (get_or w i 0)) (every p (drop (i + 1) w)) (sym (every_step p w i h) ∙ e)
+-- a byte of a word of digits
+pub digit_at : (w : List ℕ) (i : ℕ) → every is_digit w ≡ true → i < length w → (48 ≤ get_or w i 0) × (get_or w i 0 ≤ 57)
+unfolding is_digit
+digit_at w i e h =
+    let d : is_digit (get_or w i 0) ≡ true = every_at is_digit w i e h in
+    (within_low 48 57 (get_or w i 0) d, within_high 48 57 (get_or w i 0) d)
 
 -- ---- kinds, in the definition's order
 pub kind_order : (w : List ℕ) → same w (text "order") ≡ true → kind w ≡ Order
@@ -277,3 +239,44 @@ seen s at from b t next e m i = record {
   moves = λ h. lt_of_le_of_lt b.onward (m h);
   inside = λ h. (b.inside h, i (b.inside h));
 }
+
+-- ---- runs of bytes
+blanks_run : (n : ℕ) (s : List ℕ) (at : ℕ) → at + n ≤ max at (length s) → ((k : ℕ) → at ≤ k → k < at + n → is_blank (get_or s k 0) ≡ true) → tokens_at s at ≡ tokens_at s (at + n)
+blanks_run zero s at h met = let e : at ≡ at + 0 = omega arith in ap (tokens_at s) e
+blanks_run (suc n) s at h met =
+    let e : at + 1 + n ≡ at + suc n = omega arith in
+    tokens_blank s at (omega arith) (met at (omega arith) (omega arith)) ∙ blanks_run n s (at + 1) (omega arith) (λ k l u. met k (omega arith) (omega arith)) ∙ ap (tokens_at s) e
+
+pub blanks_skipped : (test : ℕ → Bool → Type 0) → ((b : ℕ) (t : Bool) → test b t → t ≡ is_blank b) → (s : List ℕ) (at r : ℕ) → RunEnd test s at r → BlanksSkipped s at r
+blanks_skipped test reads s at r run =
+    let e : at + (r - at) ≡ r = omega (arith, run.onward) in
+    record {
+      same_tokens = blanks_run (r - at) s at (omega (arith, run.onward, run.inside)) (λ k l u. sym (reads _ _ (run.met k l (omega (arith, run.onward))))) ∙ ap (tokens_at s) e;
+      onward = run.onward;
+      inside = λ h. omega (arith, run.inside);
+      no_blank = λ h. sym (reads _ _ (run.ended h));
+    }
+
+letters_run : (n : ℕ) (s : List ℕ) (from i : ℕ) → from < i → i + n ≤ length s → ((k : ℕ) → i ≤ k → k < i + n → is_letter_or_digit (get_or s k 0) ≡ true) → in_atom s from i ≡ in_atom s from (i + n)
+letters_run zero s from i f h met = let e : i ≡ i + 0 = omega arith in ap (in_atom s from) e
+letters_run (suc n) s from i f h met =
+    let e : i + 1 + n ≡ i + suc n = omega arith in
+    atom_more s from i f (omega arith) (met i (omega arith) (omega arith)) ∙ letters_run n s from (i + 1) (omega arith) (omega arith) (λ k l u. met k (omega arith) (omega arith)) ∙ ap (in_atom s from) e
+
+pub atom_read : (test : ℕ → Bool → Type 0) → ((b : ℕ) (t : Bool) → test b t → t ≡ is_letter_or_digit b) → (s : List ℕ) (from r : ℕ) → from < length s → is_letter_or_digit (get_or s from 0) ≡ true → RunEnd test s (from + 1) r → AtomRead s from r
+unfolding part
+atom_read test reads s from r h e run =
+    record {
+      tells = atom_first s from h e ∙ letters_run (r - (from + 1)) s from (from + 1) (omega arith) (omega (arith, run.onward, run.inside)) (λ k l u. sym (reads _ _ (run.met k l (omega (arith, run.onward))))) ∙ ap (in_atom s from) to ∙ ends;
+      onward = omega (arith, run.onward);
+      inside = omega (arith, run.inside);
+    }
+  where
+    to : from + 1 + (r - (from + 1)) ≡ r
+    to = omega (arith, run.onward)
+
+    ends : in_atom s from r ≡ placed (Atom (kind (part s from r))) from ∷ tokens_at s r
+    ends = elim (decided (ltb r (length s))) [
+      | inl l ↦ atom_at_byte s from r (omega (arith, run.onward)) (ltb-true _ _ l) (sym (reads _ _ (run.ended (ltb-true _ _ l))))
+      | inr l ↦ atom_at_end s from r (omega (arith, run.onward)) h (ltb-false _ _ l)
+    ]

@@ -1,5 +1,5 @@
 -- What the lexer's functions say of the tokens from a place on.
-use Rattle.std.specs.Prelude.{◌≡◌, Bool, true, false, List, [], ◌∷◌, ℕ, ◌-◌, ◌≤◌, ◌<◌, length, take, drop, get_or}
+use Rattle.std.specs.Prelude.{◌≡◌, Bool, true, false, List, [], ◌∷◌, ℕ, ◌-◌, ◌≤◌, ◌<◌, max, length, take, drop, get_or}
 use Rattle.rules.specs.declared.Token.{Token}
 use Rattle.rules.specs.declared.Token.TheVariants.{Open, Close, Atom, End, Foreign}
 use Rattle.rules.specs.Tokens.{Placed, is_blank, kind, tokens_from}
@@ -45,3 +45,10 @@ pub record AtomRead (s : List ℕ) (from r : ℕ) : Type 0 where
   pub tells : tokens_at s from ≡ placed (Atom (kind (take (r - from) (drop from s)))) from ∷ tokens_at s r
   pub onward : from < r
   pub inside : r ≤ length s
+
+-- From `at` up to r each byte meets the test, and the byte at r, if there is one, does not; a place beyond the file stays.
+pub record RunEnd (test : ℕ → Bool → Type 0) (s : List ℕ) (at r : ℕ) : Type 0 where
+  pub onward : at ≤ r
+  pub inside : r ≤ max at (length s)
+  pub met : (k : ℕ) → at ≤ k → k < r → test (get_or s k 0) true
+  pub ended : r < length s → test (get_or s r 0) false

@@ -1,63 +1,119 @@
--- Puts one behind the other: fields, rows and lines.
-use Rattle.std.specs.Prelude.{◌≡◌, refl, List, [], ◌∷◌, ◌++◌, ℕ, suc, ◌+◌, ◌*◌, ◌-◌, ◌≤◌, ◌<◌, length, get_or, take, drop}
-use Rattle.std.proofs.Common.{sym, ap, ◌∙◌, append_assoc, append-nil, arith, sub-eq-zero_of_le, add-zero, add-one, length-append, length-drop, drop_of_length-le, drop-cons, drop-drop, take-suc, take_all, length-take-le}
-use Rattle.std.proofs.Math.Nat.{sub-zero, add-sub_cancel_left}
+-- Puts one behind the other: digits, fields, rows and lines.
+use Rattle.std.specs.Prelude.{◌≡◌, refl, List, [], ◌∷◌, ◌++◌, ℕ, zero, suc, ◌+◌, ◌*◌, ◌-◌, ◌/◌, ◌%◌, ◌^◌, ◌≤◌, ◌<◌, length, get_or, take, drop}
+use Rattle.std.proofs.Common.{sym, ap, ◌∙◌, append_assoc, append-nil, arith, add-one, length-append, length-drop, length-take-le, drop_of_length-le, drop-cons, pow-suc, mul-div_cancel, lit<}
 use Rattle.rules.specs.Basics.{text}
-use Rattle.laws.specs.Stores.{stored, stored_none, behind, length-stored}
 use Rattle.rules.specs.Plans.{Row, first_row, rows_of}
-use Rattle.rules.specs.Listings.{decimal, fields, row_lines, refused_line}
-use Rattle.lines.specs.Digits.{Put}
+use Rattle.rules.specs.Listings.{decimal, fields, row_lines}
+use Rattle.lines.specs.declared.Page.{Page}
+use Rattle.lines.specs.Digits.{IsLead, digits_from, digits_all, power_pos}
+use Rattle.lines.specs.Pages.{Room, Puts, room_left, nothing_put, at_most, puts_then}
 
-pub put_none : (b : List ℕ) (at : ℕ) → Put b at [] b at
-put_none b at = record { holds = stored_none b at; ends = omega arith }
+-- ---- the digits of a number
 
-pub put_one : (b b' : List ℕ) (at x : ℕ) → b' ≡ stored b at (x ∷ []) → Put b at (x ∷ []) b' (at + 1)
-put_one b b' at x e = record { holds = e; ends = refl }
+-- the power of ten of the next of k digits, and 0 behind the last
+pub tens : ℕ → ℕ
+tens zero = 0
+tens (suc k) = 10 ^ k
 
-pub put_length : (b₀ b : List ℕ) (at to : ℕ) (v : List ℕ) → to ≤ length b₀ → Put b₀ at v b to → length b ≡ length b₀
-put_length b₀ b at to v h p = ap length p.holds ∙ length-stored b₀ at v (omega (arith, p.ends))
+tens_down : (k : ℕ) → tens (suc k) / 10 ≡ tens k
+unfolding tens
+tens_down zero = refl
+tens_down (suc k) = ap (λ (y : ℕ). y / 10) (pow-suc 10 k) ∙ mul-div_cancel (10 ^ k) {n = 10} (lit< tt)
 
--- what is put behind what was put
-pub put_then : (b₀ b b' : List ℕ) (at to to' : ℕ) (v w : List ℕ) → to' ≤ length b₀ → Put b₀ at v b to → Put b to w b' to' → Put b₀ at (v ++ w) b' to'
-put_then b₀ b b' at to to' v w h p q = record {
-  holds = behind b₀ b b' at to v w p.holds q.holds p.ends (omega (arith, p.ends, q.ends));
-  ends = omega (arith, p.ends, q.ends, length-append v w);
-}
+-- some digits were put; `left` more follow, the next of this power
+pub record DigitsPut (p q : Page) (n power : ℕ) : Type 0 where
+  pub left : ℕ
+  pub few : left ≤ 10
+  pub next : power ≡ tens left
+  pub front : List ℕ
+  pub whole : front ++ digits_from n left ≡ decimal n
+  pub put : Puts p q front (10 - left)
+
+pub digits_none : (p : Page) (n power : ℕ) → IsLead n power → DigitsPut p p n power
+unfolding tens
+digits_none p n power l =
+    record {
+      left = l.left + 1;
+      few = omega (arith, l.few);
+      next = l.power ∙ ap tens (sym (add-one l.left));
+      front = [];
+      whole = digits_all n power l;
+      put = at_most _ (omega arith) (nothing_put p);
+    }
+
+pub digits_next : {p q r : Page} {n power : ℕ} (x : ℕ) → Room p 10 → 0 < power → DigitsPut p q n power →
+    x ≡ 48 + n / power % 10 → Puts q r (x ∷ []) 1 → DigitsPut p r n (power / 10)
+unfolding tens digits_from
+digits_next {p} {q} {r} {n} {power} x room some d e put = go d.left d.few d.next d.front d.whole d.put
+  where
+    go : (left : ℕ) → left ≤ 10 → power ≡ tens left → (front : List ℕ) → front ++ digits_from n left ≡ decimal n →
+        Puts p q front (10 - left) → DigitsPut p r n (power / 10)
+    go zero few next front whole a = absurd (omega arith)
+    go (suc k) few next front whole a =
+        let same : x ≡ 48 + n / 10 ^ k % 10 = e ∙ ap (λ (y : ℕ). 48 + n / y % 10) next in
+        record {
+          left = k;
+          few = omega arith;
+          next = ap (λ (y : ℕ). y / 10) next ∙ tens_down k;
+          front = front ++ (x ∷ []);
+          whole = append_assoc front (x ∷ []) (digits_from n k) ∙ ap (λ (y : ℕ). front ++ (y ∷ digits_from n k)) same ∙ whole;
+          put = at_most _ (omega arith) (puts_then (omega arith) a put);
+        }
+
+-- room for the next digit
+pub digits_room : {p q : Page} {n power : ℕ} → Room p 10 → 0 < power → DigitsPut p q n power →
+    Room q 1
+unfolding tens
+digits_room {p} {q} {n} {power} room some d =
+    room_left 1 (omega (arith, one d.left d.next, d.few)) d.put
+  where
+    one : (left : ℕ) → power ≡ tens left → 0 < left
+    one zero e = absurd (omega arith)
+    one (suc k) e = omega arith
+
+-- no digit left: the number is put whole
+pub digits_done : {p q : Page} {n power : ℕ} → power ≤ 0 → DigitsPut p q n power → Puts p q (decimal n) 10
+unfolding tens digits_from
+digits_done {p} {q} {n} {power} none d = go d.left d.next d.front d.whole d.put
+  where
+    go : (left : ℕ) → power ≡ tens left → (front : List ℕ) → front ++ digits_from n left ≡ decimal n → Puts p q front (10 - left) →
+        Puts p q (decimal n) 10
+    go zero next front whole a = let all : front ≡ decimal n = sym (append-nil front) ∙ whole in rw (← all) (at_most _ (omega arith) a)
+    go (suc k) next front whole a = absurd (omega (arith, power_pos k))
+
+-- ---- fields
 
 -- some fields were put; those from i on follow
-pub record FieldsPut (b₀ : List ℕ) (at : ℕ) (ns : List ℕ) (i : ℕ) (b : List ℕ) (to : ℕ) : Type 0 where
+pub record FieldsPut (p q : Page) (ns : List ℕ) (i : ℕ) : Type 0 where
   pub front : List ℕ
   pub whole : front ++ fields (drop i ns) ≡ fields ns
-  pub put : Put b₀ at front b to
-  pub room : to ≤ at + 11 * i
+  pub put : Puts p q front (11 * i)
 
-pub fields_none : (b : List ℕ) (at : ℕ) (ns : List ℕ) → FieldsPut b at ns 0 b at
-fields_none b at ns = record { front = []; whole = refl; put = put_none b at; room = omega arith }
+pub fields_none : (p : Page) (ns : List ℕ) → FieldsPut p p ns 0
+fields_none p ns = record { front = []; whole = refl; put = nothing_put p }
 
-pub fields_length : (b₀ b : List ℕ) (at : ℕ) (ns : List ℕ) (i to : ℕ) → at + 11 * length ns + 1 ≤ length b₀ → i ≤ length ns → FieldsPut b₀ at ns i b to → length b ≡ length b₀
-fields_length b₀ b at ns i to h l f = put_length b₀ b at to f.front (omega (arith, f.room)) f.put
-
-pub fields_more : (b₀ b b' : List ℕ) (at : ℕ) (ns : List ℕ) (i to to' : ℕ) → at + 11 * length ns + 1 ≤ length b₀ → i < length ns → FieldsPut b₀ at ns i b to → Put b to (32 ∷ decimal (get_or ns i 0)) b' to' → to' ≤ to + 11 → FieldsPut b₀ at ns (i + 1) b' to'
+pub fields_more : {p q r : Page} (ns : List ℕ) (i : ℕ) → Room p (11 * length ns + 1) → i < length ns →
+    FieldsPut p q ns i → Puts q r (32 ∷ decimal (get_or ns i 0)) 11 → FieldsPut p r ns (i + 1)
 unfolding fields
-fields_more b₀ b b' at ns i to to' h l f p r =
+fields_more ns i room h f put =
     let v : List ℕ = 32 ∷ decimal (get_or ns i 0) in
     record {
       front = f.front ++ v;
       whole =
           append_assoc f.front v (fields (drop (i + 1) ns))
           ∙ ap (λ (n : ℕ). f.front ++ (v ++ fields (drop n ns))) (add-one i)
-          ∙ ap (λ (l : List ℕ). f.front ++ fields l) (sym (drop-cons ns i 0 l))
+          ∙ ap (λ (l : List ℕ). f.front ++ fields l) (sym (drop-cons ns i 0 h))
           ∙ f.whole;
-      put = put_then b₀ b b' at to to' f.front v (omega (arith, f.room)) f.put p;
-      room = omega (arith, f.room);
+      put = at_most _ (omega arith) (puts_then (omega arith) f.put put);
     }
 
-pub fields_done : (b₀ b b' : List ℕ) (at : ℕ) (ns : List ℕ) (i to : ℕ) → at + 11 * length ns + 1 ≤ length b₀ → i ≡ length ns → FieldsPut b₀ at ns i b to → b' ≡ stored b to (10 ∷ []) → Put b₀ at (fields ns) b' (to + 1)
+pub fields_done : {p q r : Page} (ns : List ℕ) (i : ℕ) → Room p (11 * length ns + 1) → i ≡ length ns →
+    FieldsPut p q ns i → Puts q r (10 ∷ []) 1 → Puts p r (fields ns) (11 * length ns + 1)
 unfolding fields
-fields_done b₀ b b' at ns i to h e f p =
+fields_done ns i room e f put =
     let none : drop i ns ≡ [] = drop_of_length-le ns {i = i} (omega arith) in
     let all : f.front ++ (10 ∷ []) ≡ fields ns = ap (λ (l : List ℕ). f.front ++ fields l) (sym none) ∙ f.whole in
-    rw (← all) (put_then b₀ b b' at to (to + 1) f.front (10 ∷ []) (omega (arith, f.room)) f.put (put_one b b' to 10 p))
+    rw (← all) (at_most _ (omega arith) (puts_then (omega arith) f.put put))
 
 -- ---- rows
 
@@ -69,107 +125,87 @@ row_line r = decimal r.board ++ fields (r.job ∷ r.from ∷ r.to ∷ [])
 unfoldable pub planned : List ℕ → List Row → List ℕ
 planned first rows = text "plan" ++ (fields first ++ row_lines rows)
 
--- some rows were put; those from i on follow
-pub record RowsPut (b₀ : List ℕ) (at : ℕ) (t : List ℕ) (count i : ℕ) (b : List ℕ) (to : ℕ) : Type 0 where
+-- some rows were put; those of the first `left` of the rest of the table follow
+pub record RowsPut (p q : Page) (table : List ℕ) (count : ℕ) (rest : List ℕ) (left : ℕ) : Type 0 where
+  pub within : 4 * left ≤ length rest
+  pub few : left ≤ count
   pub front : List ℕ
-  pub whole : front ++ row_lines (rows_of (count - i) (drop (4 * i) t)) ≡ row_lines (rows_of count t)
-  pub put : Put b₀ at front b to
-  pub room : to ≤ at + 44 * i
+  pub whole : front ++ row_lines (rows_of left rest) ≡ row_lines (rows_of count table)
+  pub put : Puts p q front (44 * (count - left))
 
-pub rows_none : (b : List ℕ) (at : ℕ) (t : List ℕ) (count : ℕ) → RowsPut b at t count 0 b at
-rows_none b at t count = record {
-  front = [];
-  whole = ap (λ (n : ℕ). row_lines (rows_of n t)) (sub-zero count);
-  put = put_none b at;
-  room = omega arith;
-}
+pub rows_none : (p : Page) (table : List ℕ) (count : ℕ) {rest : List ℕ} {left : ℕ} → 4 * count ≤ length table → rest ≡ table →
+    left ≡ count → RowsPut p p table count rest left
+rows_none p table count h e f =
+    rw (e, f) (record { within = h; few = omega arith; front = []; whole = refl; put = at_most _ (omega arith) (nothing_put p) })
 
-pub rows-length : (b₀ b : List ℕ) (at : ℕ) (t : List ℕ) (count i to : ℕ) → at + 44 * count ≤ length b₀ → i ≤ count → RowsPut b₀ at t count i b to → length b ≡ length b₀
-rows-length b₀ b at t count i to h l f = put_length b₀ b at to f.front (omega (arith, f.room)) f.put
+-- room for the next row
+pub rows_room : {p q : Page} {table rest : List ℕ} {count left : ℕ} (n : ℕ) → Room p (44 * count) → n + 1 ≡ left →
+    RowsPut p q table count rest left → Room q 44
+rows_room n room e f = room_left 44 (omega (arith, f.few)) f.put
 
-rows-cons : (t : List ℕ) (count i : ℕ) → i < count → rows_of (count - i) (drop (4 * i) t) ≡ first_row (drop (4 * i) t) ∷ rows_of (count - (i + 1)) (drop (4 * (i + 1)) t)
-unfolding rows_of
-rows-cons t count i h =
-    let e : count - i ≡ suc (count - (i + 1)) = omega arith in
-    let f : 4 * i + 4 ≡ 4 * (i + 1) = omega arith in
-    ap (λ (n : ℕ). rows_of n (drop (4 * i) t)) e
-    ∙ ap (λ (l : List ℕ). first_row (drop (4 * i) t) ∷ rows_of (count - (i + 1)) l) (drop-drop 4 (4 * i) t ∙ ap (λ (n : ℕ). drop n t) f)
-
--- a row of four numbers cut out of the table
-pub row_cut : (t : List ℕ) → first_row (take 4 t) ≡ first_row t
+-- a row of four numbers that stands in front of a table
+row_first : (row t : List ℕ) → length row ≡ 4 → (first_row (row ++ t) ≡ first_row row) × (drop 4 (row ++ t) ≡ t)
 unfolding first_row
-row_cut [] = refl
-row_cut (a ∷ []) = refl
-row_cut (a ∷ b ∷ []) = refl
-row_cut (a ∷ b ∷ c ∷ []) = refl
-row_cut (a ∷ b ∷ c ∷ d ∷ t) = refl
+row_first [] t e = absurd (omega arith)
+row_first (a ∷ []) t e = absurd (omega arith)
+row_first (a ∷ b ∷ []) t e = absurd (omega arith)
+row_first (a ∷ b ∷ c ∷ []) t e = absurd (omega arith)
+row_first (a ∷ b ∷ c ∷ d ∷ []) t e = (refl, refl)
+row_first (a ∷ b ∷ c ∷ d ∷ f ∷ row) t e = absurd (omega arith)
 
-pub rows_more : (b₀ b b' : List ℕ) (at : ℕ) (t : List ℕ) (count i to to' : ℕ) (row : List ℕ) → at + 44 * count ≤ length b₀ → i < count → row ≡ take 4 (drop (4 * i) t) → RowsPut b₀ at t count i b to → Put b to (row_line (first_row row)) b' to' → to' ≤ to + 44 → RowsPut b₀ at t count (i + 1) b' to'
-unfolding row_lines row_line
-rows_more b₀ b b' at t count i to to' row h l e f p r =
-    let x : Row = first_row (drop (4 * i) t) in
-    let rest = rows_of (count - (i + 1)) (drop (4 * (i + 1)) t) in
-    let same : row_line (first_row row) ≡ row_line x = ap row_line (ap first_row e ∙ row_cut (drop (4 * i) t)) in
+pub rows_more : {p q r : Page} {table all rest : List ℕ} {count left n : ℕ} (row : List ℕ) → Room p (44 * count) →
+    length row ≡ 4 → all ≡ row ++ rest → n + 1 ≡ left → RowsPut p q table count all left → Puts q r (row_line (first_row row)) 44 →
+    RowsPut p r table count rest n
+unfolding row_lines row_line rows_of
+rows_more {p} {q} {r} {table} {all} {rest} {count} {left} {n} row room four e next f put =
+    let x : Row = first_row row in
+    let cut = row_first row rest four in
+    let this : rows_of left all ≡ x ∷ rows_of n rest =
+    ap (λ (k : ℕ). rows_of k all) (sym next ∙ add-one n)
+    ∙ ap (λ (t : List ℕ). first_row t ∷ rows_of n (drop 4 t)) e
+    ∙ ap (λ (y : Row). y ∷ rows_of n (drop 4 (row ++ rest))) cut.0
+    ∙ ap (λ (t : List ℕ). x ∷ rows_of n t) cut.1 in
     record {
+      within = omega (arith, f.within, ap length e, length-append row rest);
+      few = omega (arith, f.few);
       front = f.front ++ row_line x;
       whole =
-          append_assoc f.front (row_line x) (row_lines rest)
-          ∙ ap (λ (v : List ℕ). f.front ++ v) (append_assoc (decimal x.board) (fields (x.job ∷ x.from ∷ x.to ∷ [])) (row_lines rest))
-          ∙ ap (λ (rows : List Row). f.front ++ row_lines rows) (sym (rows-cons t count i l))
+          append_assoc f.front (row_line x) (row_lines (rows_of n rest))
+          ∙ ap (λ (v : List ℕ). f.front ++ v)
+          (append_assoc (decimal x.board) (fields (x.job ∷ x.from ∷ x.to ∷ [])) (row_lines (rows_of n rest)))
+          ∙ ap (λ (rows : List Row). f.front ++ row_lines rows) (sym this)
           ∙ f.whole;
-      put = put_then b₀ b b' at to to' f.front (row_line x) (omega (arith, f.room)) f.put (rw same at p);
-      room = omega (arith, f.room);
+      put = at_most _ (omega (arith, f.few)) (puts_then (omega (arith, f.few)) f.put put);
     }
 
-pub rows_done : (b₀ b : List ℕ) (at : ℕ) (t : List ℕ) (count i to : ℕ) → count ≤ i → RowsPut b₀ at t count i b to → Put b₀ at (row_lines (rows_of count t)) b to
+-- no whole row is left
+pub rows_done : {p q : Page} {table rest : List ℕ} {count left : ℕ} → (0 < left → length rest < 4) → RowsPut p q table count rest left →
+    Puts p q (row_lines (rows_of count table)) (44 * count)
 unfolding row_lines rows_of
-rows_done b₀ b at t count i to h f =
-    let all : f.front ≡ row_lines (rows_of count t) =
-    sym (append-nil f.front)
-    ∙ ap (λ (n : ℕ). f.front ++ row_lines (rows_of n (drop (4 * i) t))) (sym (sub-eq-zero_of_le h))
-    ∙ f.whole in
-    rw (← all) f.put
-
--- ---- a text, byte by byte
-
-pub text_none : (b : List ℕ) (at : ℕ) (w : List ℕ) → Put b at (take 0 w) b (at + 0)
-text_none b at w = rw (add-zero at) (put_none b at)
-
-pub text_more : (b₀ b b' : List ℕ) (at : ℕ) (w : List ℕ) (i : ℕ) → at + length w ≤ length b₀ → i < length w → Put b₀ at (take i w) b (at + i) → b' ≡ stored b (at + i) (get_or w i 0 ∷ []) → Put b₀ at (take (i + 1) w) b' (at + (i + 1))
-text_more b₀ b b' at w i h l p e =
-    let up : at + i + 1 ≡ at + (i + 1) = omega arith in
-    rw (add-one i, take-suc w i 0 l, ← add-one i, ← up)
-    (put_then b₀ b b' at (at + i) (at + i + 1) (take i w) (get_or w i 0 ∷ []) (omega arith) p (put_one b b' (at + i) (get_or w i 0) e))
-
-pub text_done : (b₀ b : List ℕ) (at : ℕ) (w : List ℕ) (i : ℕ) → length w ≤ i → Put b₀ at (take i w) b (at + i) → Put b₀ at w b (at + i)
-text_done b₀ b at w i h p = rw (take_all i w h) at p
+rows_done {p} {q} {table} {rest} {count} {left} short f =
+    let none : left ≡ 0 = empty left f.within short in
+    let all : f.front ≡ row_lines (rows_of count table) =
+    sym (append-nil f.front) ∙ ap (λ (n : ℕ). f.front ++ row_lines (rows_of n rest)) (sym none) ∙ f.whole in
+    rw (← all) (at_most _ (omega arith) f.put)
+  where
+    empty : (k : ℕ) → 4 * k ≤ length rest → (0 < k → length rest < 4) → k ≡ 0
+    empty zero w s = refl
+    empty (suc k) w s = absurd (omega (arith, s (omega arith)))
 
 -- ---- whole lines
 
-pub row_put : (b b₁ b₂ : List ℕ) (at to to' : ℕ) (row : List ℕ) → length row ≡ 4 → to' ≤ length b → Put b at (decimal (get_or row 0 0)) b₁ to → Put b₁ to (fields (take (length row - 1) (drop 1 row))) b₂ to' → Put b at (row_line (first_row row)) b₂ to'
+pub row_put : {p q r : Page} (row : List ℕ) → length row ≡ 4 → Room p 44 →
+    Puts p q (decimal (get_or row 0 0)) 10 → Puts q r (fields (take (length row - 1) (drop 1 row))) (11 * length (take (length row - 1) (drop 1 row)) + 1) →
+    Puts p r (row_line (first_row row)) 44
 unfolding row_line first_row
-row_put b b₁ b₂ at to to' [] e h p q = absurd (omega arith)
-row_put b b₁ b₂ at to to' (x ∷ []) e h p q = absurd (omega arith)
-row_put b b₁ b₂ at to to' (x ∷ y ∷ []) e h p q = absurd (omega arith)
-row_put b b₁ b₂ at to to' (x ∷ y ∷ z ∷ []) e h p q = absurd (omega arith)
-row_put b b₁ b₂ at to to' (x ∷ y ∷ z ∷ u ∷ []) e h p q = put_then b b₁ b₂ at to to' (decimal x) (fields (y ∷ z ∷ u ∷ [])) h p q
-row_put b b₁ b₂ at to to' (x ∷ y ∷ z ∷ u ∷ v ∷ row) e h p q = absurd (omega arith)
+row_put [] e h a b = absurd (omega arith)
+row_put (x ∷ []) e h a b = absurd (omega arith)
+row_put (x ∷ y ∷ []) e h a b = absurd (omega arith)
+row_put (x ∷ y ∷ z ∷ []) e h a b = absurd (omega arith)
+row_put (x ∷ y ∷ z ∷ u ∷ []) e h a b = puts_then h a b
+row_put (x ∷ y ∷ z ∷ u ∷ v ∷ row) e h a b = absurd (omega arith)
 
-pub cut_four : (t : List ℕ) (i : ℕ) → take (4 * i + 4 - 4 * i) (drop (4 * i) t) ≡ take 4 (drop (4 * i) t)
-cut_four t i = ap (λ (n : ℕ). take n (drop (4 * i) t)) (add-sub_cancel_left (4 * i) 4)
-
-pub cut_length : (t : List ℕ) (i : ℕ) → 4 * i + 4 ≤ length t → length (take (4 * i + 4 - 4 * i) (drop (4 * i) t)) ≡ 4
-cut_length t i h = ap length (cut_four t i) ∙ length-take-le 4 (drop (4 * i) t) (omega (arith, length-drop (4 * i) t))
-
-pub refusal_put : (b b₁ b₂ : List ℕ) (to to' refusal place : ℕ) → to' ≤ length b → Put b 0 (text "refused") b₁ to → Put b₁ to (fields (refusal ∷ place ∷ [])) b₂ to' → Put b 0 (refused_line refusal place) b₂ to'
-unfolding refused_line
-refusal_put b b₁ b₂ to to' refusal place h p q = put_then b b₁ b₂ 0 to to' (text "refused") (fields (refusal ∷ place ∷ [])) h p q
-
-pub plan_put : (b b₁ b₂ b₃ : List ℕ) (to₁ to₂ to₃ : ℕ) (first : List ℕ) (rows : List Row) → to₂ ≤ length b → to₃ ≤ length b → Put b 0 (text "plan") b₁ to₁ → Put b₁ to₁ (fields first) b₂ to₂ → Put b₂ to₂ (row_lines rows) b₃ to₃ → Put b 0 (planned first rows) b₃ to₃
-unfolding planned
-plan_put b b₁ b₂ b₃ to₁ to₂ to₃ first rows h k p q r =
-    rw (← append_assoc (text "plan") (fields first) (row_lines rows))
-    (put_then b b₂ b₃ 0 to₂ to₃ (text "plan" ++ fields first) (row_lines rows) k (put_then b b₁ b₂ 0 to₁ to₂ (text "plan") (fields first) h p q) r)
-
-pub tail_three : (row : List ℕ) → length row ≡ 4 → length (take (length row - 1) (drop 1 row)) ≡ 3
-tail_three row e = length-take-le (length row - 1) (drop 1 row) (omega (arith, length-drop 1 row)) ∙ omega arith
+pub tail_room : {p q : Page} {v : List ℕ} (row : List ℕ) → length row ≡ 4 → Room p 44 → Puts p q v 10 →
+    Room q (11 * length (take (length row - 1) (drop 1 row)) + 1)
+tail_room row e h a =
+    room_left _ (omega (arith, length-take-le (length row - 1) (drop 1 row) (omega (arith, length-drop 1 row)))) a

@@ -1,5 +1,5 @@
 -- The listing in a lent buffer, and the laws that join the calls.
-use Rattle.std.specs.Prelude.{◌≡◌, Bool, ◌||◌, ℕ, ◌+◌, ◌*◌, ◌-◌, ◌≤◌, ◌<◌, take, drop, ltb, eqb}
+use Rattle.std.specs.Prelude.{◌≡◌, Result, Ok, Err, Bool, ◌||◌, ℕ, ◌+◌, ◌*◌, ◌-◌, ◌≤◌, ◌<◌, take, drop, ltb, eqb}
 use Rattle.std.proofs.Math.Path.{refl, ap}
 use Rattle.std.proofs.Common.{sym, ap₂, subst, ◌∙◌, arith, length-append, length-drop, lt-ltb, le-ltb, eq-eqb, ne_eqb}
 use Rattle.std.proofs.Math.Bool.{true, false}
@@ -10,7 +10,11 @@ use Rattle.rules.specs.Basics.{pick, zeros, most_jobs, most_bytes}
 use Rattle.rules.specs.declared.OrderRead.{OrderRead}
 use Rattle.rules.specs.declared.Planned.{Planned}
 use Rattle.rules.specs.declared.Refusal.{Refusal}
-use Rattle.rules.specs.declared.Refusal.TheVariants.{NoPlan, ShortBuffer, LongFile, BadBoards, BadLists, OutOfRange}
+use Rattle.rules.specs.declared.Refusal.TheVariants.{ForeignByte, NotAllowed, Unclosed, NoNumber, AboveLimit, TooDeep, TooManyJobs, NoJob, NoPlan, ShortBuffer, LongFile, BadBoards, BadLists, OutOfRange, BadTrailer}
+use Rattle.refusals.specs.declared.Fault.{Fault}
+use Rattle.grammar.specs.declared.Order.{Order}
+use Rattle.grammar.specs.Turns.{said_of}
+use Rattle.planner.specs.Said.{planned_of}
 use Rattle.rules.specs.Refusals.{number_of}
 use Rattle.rules.specs.Plans.{Row, jobs, rows_of, numbers_of, preemptions}
 use Rattle.rules.specs.Orders.{ReadAnswer, read_answer, refused_read, after_reading, order_of, Outcome, refused, accepted}
@@ -23,6 +27,12 @@ use Rattle.theory.specs.DueOrder.{length-jobs}
 use Rattle.theory.proofs.Answers.{rows_of_numbers_of, length-numbers_of}
 use Rattle.lines.specs.Digits.{Put}
 use Rattle.lines.specs.Fields.{planned}
+
+-- What is left in the buffer where these are the lines: the lines and their end, or nothing is put, and they are the line of
+-- the refusal.
+abbrev pub Lists : List ℕ → List ℕ → Result ℕ Fault → List ℕ → Type 0
+Lists wanted lines (Ok end) later = Put lines 0 wanted later end
+Lists wanted lines (Err fault) later = (wanted ≡ refused_line (number_of fault.refusal) fault.place) × (later ≡ lines)
 
 -- room for 2,000 rows of four numbers of ten digits, and a first line
 abbrev pub room : ℕ
@@ -166,28 +176,50 @@ order_read a h = pick_yes (eqb a.said.refusal 0) _ _ (eq-eqb a.said.refusal 0 h)
 
 -- ---- what the code has, and the lines that it puts
 
-pub rows_said : (m : ℕ) (works dues table : List ℕ) (said : Planned) (later : List ℕ) → said ≡ (plan_answer m works dues table).said → later ≡ (plan_answer m works dues table).table → 4 * said.rows ≤ length later
-rows_said m works dues table said later p q = rw (p, q) (rows_within m works dues table)
+pub rows_said : (m : ℕ) (works dues table : List ℕ) (count : ℕ) (later : List ℕ) → planned_of (Ok count) ≡ (plan_answer m works dues table).said → later ≡ (plan_answer m works dues table).table → 4 * count ≤ length later
+rows_said m works dues table count later p q = rw (ap (λ (x : Planned). x.rows) p, q) (rows_within m works dues table)
 
-pub day_refused : (boards : ℕ) (works dues table : List ℕ) (said : Planned) (lines later : List ℕ) (r : ℕ) → 8 * length works ≤ length table → said ≡ (plan_answer boards works dues table).said → (said.refusal ≡ 0 → ⊥) → Put lines 0 (refused_line said.refusal said.place) later r → Put lines 0 (plan_lines boards works dues (plan_answer boards works dues (zeros (8 * length works)))) later r
-day_refused boards works dues table said lines later r h e n p =
+number_above : (r : Refusal) → number_of r ≡ 0 → ⊥
+unfolding number_of
+number_above ForeignByte e = omega arith
+number_above NotAllowed e = omega arith
+number_above Unclosed e = omega arith
+number_above NoNumber e = omega arith
+number_above AboveLimit e = omega arith
+number_above TooDeep e = omega arith
+number_above TooManyJobs e = omega arith
+number_above NoJob e = omega arith
+number_above NoPlan e = omega arith
+number_above ShortBuffer e = omega arith
+number_above LongFile e = omega arith
+number_above BadBoards e = omega arith
+number_above BadLists e = omega arith
+number_above OutOfRange e = omega arith
+number_above BadTrailer e = omega arith
+
+abbrev pub day : ℕ → List ℕ → List ℕ → List ℕ
+day boards works dues = plan_lines boards works dues (plan_answer boards works dues (zeros (8 * length works)))
+
+pub day_refused : (boards : ℕ) (works dues table lines : List ℕ) (fault : Fault) → 8 * length works ≤ length table → planned_of (Err fault) ≡ (plan_answer boards works dues table).said → Lists (day boards works dues) lines (Err fault) lines
+day_refused boards works dues table lines fault h e =
     let a = plan_answer boards works dues table in
-    let same : refused_line said.refusal said.place ≡ plan_lines boards works dues (plan_answer boards works dues (zeros (8 * length works))) =
-    ap (λ (x : Planned). refused_line x.refusal x.place) e
-    ∙ sym (refusal_lines boards works dues a (λ z. n (ap (λ (x : Planned). x.refusal) e ∙ z)))
-    ∙ same_lines boards works dues table h in
-    subst (λ (v : List ℕ). Put lines 0 v later r) same p
+    let n : a.said.refusal ≡ number_of fault.refusal = sym (ap (λ (x : Planned). x.refusal) e) in
+    let same : day boards works dues ≡ refused_line (number_of fault.refusal) fault.place =
+    sym (same_lines boards works dues table h)
+    ∙ refusal_lines boards works dues a (λ z. number_above fault.refusal (sym n ∙ z))
+    ∙ sym (ap (λ (x : Planned). refused_line x.refusal x.place) e) in
+    (same, refl)
 
-pub day_planned : (boards : ℕ) (works dues table : List ℕ) (said : Planned) (full : List ℕ) (lines later : List ℕ) (r : ℕ) → length works ≡ length dues → 8 * length works ≤ length table → said ≡ (plan_answer boards works dues table).said → full ≡ (plan_answer boards works dues table).table → said.refusal ≡ 0 → Put lines 0 (planned (boards ∷ length works ∷ said.rows ∷ (said.rows - length works) ∷ []) (rows_of said.rows full)) later r → Put lines 0 (plan_lines boards works dues (plan_answer boards works dues (zeros (8 * length works)))) later r
+pub day_planned : (boards : ℕ) (works dues table : List ℕ) (count : ℕ) (full : List ℕ) (lines later : List ℕ) (r : ℕ) → length works ≡ length dues → 8 * length works ≤ length table → planned_of (Ok count) ≡ (plan_answer boards works dues table).said → full ≡ (plan_answer boards works dues table).table → Put lines 0 (planned (boards ∷ length works ∷ count ∷ (count - length works) ∷ []) (rows_of count full)) later r → Lists (day boards works dues) lines (Ok r) later
 unfolding preemptions
-day_planned boards works dues table said full lines later r eq h e f z p =
-    let rows = rows_of said.rows full in
-    let n : length rows ≡ said.rows = length_rows_of said.rows full in
+day_planned boards works dues table count full lines later r eq h e f p =
+    let rows = rows_of count full in
+    let n : length rows ≡ count = length_rows_of count full in
     let j : length (jobs works dues) ≡ length works = length-jobs works dues eq in
-    let same : planned (boards ∷ length works ∷ said.rows ∷ (said.rows - length works) ∷ []) rows ≡ plan_lines boards works dues (plan_answer boards works dues (zeros (8 * length works))) =
+    let same : planned (boards ∷ length works ∷ count ∷ (count - length works) ∷ []) rows ≡ day boards works dues =
     ap₂ (λ (x y : ℕ). planned (boards ∷ x ∷ y ∷ (y - x) ∷ []) rows) (sym j) (sym n)
     ∙ ap₂ (λ (x : Planned) (t : List ℕ). planned (boards ∷ length (jobs works dues) ∷ length (rows_of x.rows t) ∷ preemptions (rows_of x.rows t) (jobs works dues) ∷ []) (rows_of x.rows t)) e f
-    ∙ sym (plan_lines_lem boards works dues (plan_answer boards works dues table) (ap (λ (x : Planned). x.refusal) (sym e) ∙ z))
+    ∙ sym (plan_lines_lem boards works dues (plan_answer boards works dues table) (ap (λ (x : Planned). x.refusal) (sym e)))
     ∙ same_lines boards works dues table h in
     subst (λ (v : List ℕ). Put lines 0 v later r) same p
 
@@ -205,32 +237,41 @@ jobs_within file w d =
     Within : ReadAnswer → Type 0
     Within a = a.said.jobs ≤ length a.work
 
-pub jobs_said : (file w d : List ℕ) (said : OrderRead) (work : List ℕ) → said ≡ (read_answer file w d).said → work ≡ (read_answer file w d).work → said.jobs ≤ length work
-jobs_said file w d said work p q = rw (p, q) (jobs_within file w d)
-
-pub listed_refused : (file w d lines later : List ℕ) (said : OrderRead) (r : ℕ) → length w ≡ 1000 → length d ≡ 1000 → room ≤ length lines → said ≡ (read_answer file w d).said → (said.refusal ≡ 0 → ⊥) → Put lines 0 (refused_line said.refusal said.place) later r → (r ≡ listed_length file lines) × (later ≡ listed_lines file lines)
-listed_refused file w d lines later said r lw ld h e n p =
-    let a = read_answer file w d in
-    let same : refused_line said.refusal said.place ≡ listing file =
-    ap (λ (x : OrderRead). refused_line x.refusal x.place) e
-    ∙ sym (order_refused a (λ z. n (ap (λ (x : OrderRead). x.refusal) e ∙ z)))
-    ∙ read_same file w d lw ld in
-    listed file lines later r h (subst (λ (v : List ℕ). Put lines 0 v later r) same p)
+pub jobs_said : (file w d : List ℕ) (order : Order) (work : List ℕ) → said_of (Ok order) ≡ (read_answer file w d).said → work ≡ (read_answer file w d).work → order.jobs ≤ length work
+unfolding said_of
+jobs_said file w d order work p q = rw (ap (λ (x : OrderRead). x.jobs) p, q) (jobs_within file w d)
 
 abbrev day_of : OrderRead → List ℕ → List ℕ → List ℕ
-day_of said work due =
-    plan_lines said.boards (take said.jobs work) (take said.jobs due)
-    (plan_answer said.boards (take said.jobs work) (take said.jobs due) (zeros (8 * length (take said.jobs work))))
+day_of said work due = day said.boards (take said.jobs work) (take said.jobs due)
 
-pub listed_read : (file w d lines later : List ℕ) (said : OrderRead) (work due : List ℕ) (r : ℕ) → length w ≡ 1000 → length d ≡ 1000 → room ≤ length lines → said ≡ (read_answer file w d).said → work ≡ (read_answer file w d).work → due ≡ (read_answer file w d).due → said.refusal ≡ 0 → Put lines 0 (day_of said work due) later r → (r ≡ listed_length file lines) × (later ≡ listed_lines file lines)
-listed_read file w d lines later said work due r lw ld h e f g z p =
+pub file_refused : (file w d lines : List ℕ) (fault : Fault) → length w ≡ 1000 → length d ≡ 1000 → said_of (Err fault) ≡ (read_answer file w d).said → Lists (listing file) lines (Err fault) lines
+unfolding said_of
+file_refused file w d lines fault lw ld e =
     let a = read_answer file w d in
-    let same : day_of said work due ≡ listing file =
+    let n : a.said.refusal ≡ number_of fault.refusal = sym (ap (λ (x : OrderRead). x.refusal) e) in
+    let same : listing file ≡ refused_line (number_of fault.refusal) fault.place =
+    sym (read_same file w d lw ld)
+    ∙ order_refused a (λ z. number_above fault.refusal (sym n ∙ z))
+    ∙ sym (ap (λ (x : OrderRead). refused_line x.refusal x.place) e) in
+    (same, refl)
+
+pub file_read : (file w d lines later : List ℕ) (order : Order) (work due : List ℕ) (result : Result ℕ Fault) → length w ≡ 1000 → length d ≡ 1000 → said_of (Ok order) ≡ (read_answer file w d).said → work ≡ (read_answer file w d).work → due ≡ (read_answer file w d).due → Lists (day order.boards (take order.jobs work) (take order.jobs due)) lines result later → Lists (listing file) lines result later
+unfolding said_of
+file_read file w d lines later order work due result lw ld e f g p =
+    let a = read_answer file w d in
+    let same : day order.boards (take order.jobs work) (take order.jobs due) ≡ listing file =
     ap (λ (x : OrderRead). day_of x work due) e
     ∙ ap₂ (λ (x y : List ℕ). day_of a.said x y) f g
-    ∙ sym (order_read a (ap (λ (x : OrderRead). x.refusal) (sym e) ∙ z))
+    ∙ sym (order_read a (sym (ap (λ (x : OrderRead). x.refusal) e)))
     ∙ read_same file w d lw ld in
-    listed file lines later r h (subst (λ (v : List ℕ). Put lines 0 v later r) same p)
+    subst (λ (v : List ℕ). Lists v lines result later) same p
+
+-- the refusal's line is put where nothing was
+pub listed_fault : (file lines lent later : List ℕ) (fault : Fault) (n r : ℕ) → room ≤ length lines → Lists (listing file) lines (Err fault) lent → n ≡ number_of fault.refusal → Put lent 0 (refused_line n fault.place) later r → (r ≡ listed_length file lines) × (later ≡ listed_lines file lines)
+listed_fault file lines lent later fault n r h (same, kept) e p =
+    listed file lines later r h
+    (subst (λ (v : List ℕ). Put lines 0 v later r) (ap (λ (k : ℕ). refused_line k fault.place) e ∙ sym same)
+    (subst (λ (v : List ℕ). Put v 0 (refused_line n fault.place) later r) kept p))
 
 -- what was put ends within the buffer, since the buffer is as long as it was
 pub put_within : (lines later v : List ℕ) (r : ℕ) → length later ≡ length lines → Put lines 0 v later r → r ≤ length lines

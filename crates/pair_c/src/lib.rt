@@ -1,5 +1,5 @@
-// The export of the pair's static archive, which is linked into the comparisons alone: the contract of the reader that ships,
-// clause for clause.
+// The export of the pair's static archive, which is linked into the comparisons alone: the contract of the reader that
+// ships, clause for clause. C links an archive, and a crate is an archive or a library.
 #![tactic(auto)]
 
 ghost use Rattle.std.specs.Prelude.{◌≡◌};

@@ -1,49 +1,16 @@
 -- Laws of the choice of boards. Two laws of `scan` carry all: what holds of every spot that is chosen on the way holds of the
 -- one chosen at last; and a test that passes from a chosen room to the room it beats, and from a best room to the rooms that
 -- it keeps out, holds of the last room exactly where it holds of every room.
-use Rattle.std.specs.Prelude.{◌≡◌, refl, Bool, true, false, ◌&&◌, ◌||◌, List, [], ◌∷◌, ◌⊎◌, ℕ, zero, suc, ◌+◌, ◌-◌, ◌≤◌, ◌<◌, ◌^◌, length, get_or, leb, ltb, eqb}
-use Rattle.std.proofs.Common.{sym, ◌∙◌, ap, true≢false, inl, inr, arith, get_or-set_same, get_or-set_other, ltb-true, ltb-false, leb-true, eqb-true, lt-ltb, le-leb, eq-eqb}
-use Rattle.std.proofs.lemmas.Bool.{false≢true, eqb-false}
+use Rattle.std.specs.Prelude.{◌≡◌, refl, Bool, true, false, ◌&&◌, ◌||◌, List, [], ◌∷◌, ◌⊎◌, ℕ, suc, ◌+◌, ◌-◌, ◌≤◌, ◌<◌, ◌^◌, length, get_or, leb, ltb, eqb}
+use Rattle.std.proofs.Common.{sym, ◌∙◌, ap, inl, inr, arith, get_or-set_same, get_or-set_other, ltb-true, leb-true, eqb-true}
+use Rattle.std.proofs.lemmas.Bool.{eqb-false}
+use Rattle.std.proofs.lemmas.Bool.Decides.{nat_tests}
+use Rattle.std.proofs.Math.Bool.{and-true}
 use Rattle.rules.specs.declared.Spot.{Spot}
 use Rattle.rules.specs.Basics.{All, every}
 use Rattle.rules.specs.Planning.{rooms, scan, none, greatest_up_to, least_above, fill}
-use Rattle.laws.specs.Tests.{pick_yes, pick_no, decided, and_left, and_right, or_left, or_right, or_cases, or_no_left, or_no_right}
-use Rattle.placing.specs.Scans.{length-rooms, less_above}
-
-and_true : (a : Bool) → (a && true) ≡ a
-and_true true = refl
-and_true false = refl
-
-and_drops : (a b c : Bool) → (b ≡ true → a ≡ true) → (b && c) ≡ (a && (b && c))
-and_drops true b c h = refl
-and_drops false true c h = absurd (false≢true (h refl))
-and_drops false false c h = refl
-
-and_adds : (a b c : Bool) → (a ≡ true → b ≡ true) → (a && c) ≡ (a && (b && c))
-and_adds true true c h = refl
-and_adds true false c h = absurd (false≢true (h refl))
-and_adds false b c h = refl
-
-and_first_no : (a b : Bool) → (a && b) ≡ false → b ≡ true → a ≡ false
-and_first_no true b e h = sym h ∙ e
-and_first_no false b e h = refl
-
-and_second_no : (a b : Bool) → (a && b) ≡ false → a ≡ true → b ≡ false
-and_second_no true b e h = e
-and_second_no false b e h = absurd (false≢true h)
-
-abbrev spot : ℕ → ℕ → Spot
-spot board room = record { board = board; room = room }
-
-scan_yes : (beats : ℕ → ℕ → Bool) (k : ℕ) (best : Spot) (r : ℕ) (rs : List ℕ) → beats r best.room ≡ true →
-    scan beats k best (r ∷ rs) ≡ scan beats (suc k) (spot k r) rs
-unfolding scan
-scan_yes beats k best r rs e = ap (λ (s : Spot). scan beats (suc k) s rs) (pick_yes _ _ _ e)
-
-scan_no : (beats : ℕ → ℕ → Bool) (k : ℕ) (best : Spot) (r : ℕ) (rs : List ℕ) → beats r best.room ≡ false →
-    scan beats k best (r ∷ rs) ≡ scan beats (suc k) best rs
-unfolding scan
-scan_no beats k best r rs e = ap (λ (s : Spot). scan beats (suc k) s rs) (pick_no _ _ _ e)
+use Rattle.laws.specs.Tests.{pick_yes, pick_no, decided, and_left, and_right}
+use Rattle.placing.specs.Scans.{spot, scan_yes, scan_no, length-rooms, room_at, greater_up_to, less_above}
 
 -- what each chosen spot has, the last one has
 scan_keeps : (beats : ℕ → ℕ → Bool) (I : Spot → Type 0) (k : ℕ) (best : Spot) (rs : List ℕ) → I best →
@@ -59,13 +26,19 @@ scan_keeps beats I k best (r ∷ rs) h f =
           (λ i b board p l. f (suc i) b board (omega arith) (omega arith)))
     ]
 
+and_drops : (a b c : Bool) → (b ≡ true → a ≡ true) → (b && c) ≡ (a && (b && c))
+and_drops a b c h = grind (arith, nat_tests)
+
+and_adds : (a b c : Bool) → (a ≡ true → b ≡ true) → (a && c) ≡ (a && (b && c))
+and_adds a b c h = grind (arith, nat_tests)
+
 -- a test holds of the last room where it holds of the best before and of every room
 scan_all : (beats : ℕ → ℕ → Bool) (P : ℕ → Bool) (Q : ℕ → Type 0)
     → ((room best : ℕ) → Q room → beats room best ≡ true → P room ≡ true → P best ≡ true)
     → ((room best : ℕ) → Q room → beats room best ≡ false → P best ≡ true → P room ≡ true)
     → (k : ℕ) (best : Spot) (rs : List ℕ) → All Q rs → P (scan beats k best rs).room ≡ (P best.room && every P rs)
 unfolding scan every
-scan_all beats P Q win lose k best [] a = sym (and_true (P best.room))
+scan_all beats P Q win lose k best [] a = sym (and-true (P best.room))
 scan_all beats P Q win lose k best (r ∷ rs) a =
     elim (decided (beats r best.room)) [
       | inl e ↦ ap (λ (s : Spot). P s.room) (scan_yes beats k best r rs e)
@@ -75,12 +48,6 @@ scan_all beats P Q win lose k best (r ∷ rs) a =
           ∙ scan_all beats P Q win lose (suc k) best rs a.1
           ∙ and_adds (P best.room) (P r) (every P rs) (lose r best.room a.0 e)
     ]
-
-room_at : (due : ℕ) (free : List ℕ) (i : ℕ) → i < length free → get_or (rooms due free) i 0 ≡ due - get_or free i 0
-unfolding rooms
-room_at due [] i h = absurd (omega arith)
-room_at due (f ∷ free) zero h = refl
-room_at due (f ∷ free) (suc i) h = room_at due free i (omega arith)
 
 pub rooms_up_to_due : (due : ℕ) (free : List ℕ) → All (λ r. r ≤ due) (rooms due free)
 unfolding rooms
@@ -106,115 +73,82 @@ scan_spotted beats due free h =
 pub greatest_spotted : (limit due : ℕ) (free : List ℕ) → 0 < length free →
     Spotted due free (greatest_up_to limit (rooms due free))
 unfolding greatest_up_to
-greatest_spotted limit due free h = scan_spotted (λ room best. ltb best room && leb room limit) due free h
+greatest_spotted limit due free h = scan_spotted (greater_up_to limit) due free h
 
 pub least_spotted : (limit due : ℕ) (free : List ℕ) → 0 < length free → Spotted due free (least_above limit (rooms due free))
 unfolding least_above
-least_spotted limit due free h = scan_spotted (λ room best. ltb limit room && (eqb best 0 || ltb room best)) due free h
+least_spotted limit due free h = scan_spotted (less_above limit) due free h
 
 pub greatest_bound : (limit : ℕ) (rs : List ℕ) → (greatest_up_to limit rs).room ≤ limit
 unfolding greatest_up_to none
-greatest_bound limit rs = scan_keeps (λ room best. ltb best room && leb room limit) (λ s. s.room ≤ limit) 0 none rs
+greatest_bound limit rs = scan_keeps (greater_up_to limit) (λ s. s.room ≤ limit) 0 none rs
     (omega arith) (λ i b board p l e. leb-true _ _ (and_right (ltb b (get_or rs i 0)) (leb (get_or rs i 0) limit) e))
 
 pub least_bound : (limit : ℕ) (rs : List ℕ) → ((least_above limit rs).room ≡ 0) ⊎ (limit < (least_above limit rs).room)
 unfolding least_above none
-least_bound limit rs = scan_keeps (λ room best. ltb limit room && (eqb best 0 || ltb room best))
+least_bound limit rs = scan_keeps (less_above limit)
     (λ s. (s.room ≡ 0) ⊎ (limit < s.room)) 0 none rs (inl refl)
     (λ i b board p l e. inr (ltb-true _ _ (and_left (ltb limit (get_or rs i 0)) (eqb b 0 || ltb (get_or rs i 0) b) e)))
+
+greater_win : (limit t room best : ℕ) → room ≤ limit → greater_up_to limit room best ≡ true → ltb room t ≡ true →
+    ltb best t ≡ true
+greater_win limit t room best q e p = grind (arith, nat_tests)
+
+greater_lose : (limit t room best : ℕ) → room ≤ limit → greater_up_to limit room best ≡ false → ltb best t ≡ true →
+    ltb room t ≡ true
+greater_lose limit t room best q e p = grind (arith, nat_tests)
 
 -- 2: "If t exceeds every room" asks the greatest room
 pub greatest_below : (limit t : ℕ) (rs : List ℕ) → All (λ r. r ≤ limit) rs →
     ltb (greatest_up_to limit rs).room t ≡ (ltb 0 t && every (λ r. ltb r t) rs)
 unfolding greatest_up_to none
 greatest_below limit t rs a =
-    scan_all (λ room best. ltb best room && leb room limit) (λ r. ltb r t) (λ r. r ≤ limit)
-    (λ room best q e p. lt-ltb best t (omega (
-      arith,
-      ltb-true best room (and_left (ltb best room) (leb room limit) e),
-      ltb-true room t p,
-    )))
-    (λ room best q e p. lt-ltb room t (omega (
-      arith,
-      ltb-false best room
-          (and_first_no (ltb best room) (leb room limit) e (le-leb room limit q)),
-      ltb-true best t p,
-    )))
-    0 none rs a
+    scan_all (greater_up_to limit) (λ r. ltb r t) (λ r. r ≤ limit)
+    (greater_win limit t) (greater_lose limit t) 0 none rs a
 
 -- 3: "If t is at most every room that isn't 0" asks the least room
 unfoldable pub fits_open : ℕ → ℕ → Bool
 fits_open t r = eqb r 0 || leb t r
 
-least_win : (t room best : ℕ) → (ltb 0 room && (eqb best 0 || ltb room best)) ≡ true → fits_open t room ≡ true →
-    fits_open t best ≡ true
+least_win : (t room best : ℕ) → Unit {0} → less_above 0 room best ≡ true → fits_open t room ≡ true → fits_open t best ≡ true
 unfolding fits_open
-least_win t room best e p =
-    let some : 0 < room = ltb-true 0 room (and_left (ltb 0 room) (eqb best 0 || ltb room best) e) in
-    elim (or_cases (eqb best 0) (ltb room best) (and_right (ltb 0 room) (eqb best 0 || ltb room best) e)) [
-      | inl h ↦ or_left (eqb best 0) (leb t best) h
-      | inr h ↦ elim (or_cases (eqb room 0) (leb t room) p) [
-        | inl z ↦ absurd (omega (arith, eqb-true room 0 z))
-        | inr l ↦ or_right (eqb best 0) (leb t best) (le-leb t best
-            (omega (arith, ltb-true room best h, leb-true t room l)))
-      ]
-    ]
+least_win t room best q e p = grind (arith, nat_tests)
 
-least_lose : (t room best : ℕ) → (ltb 0 room && (eqb best 0 || ltb room best)) ≡ false → fits_open t best ≡ true →
-    fits_open t room ≡ true
+least_lose : (t room best : ℕ) → Unit {0} → less_above 0 room best ≡ false → fits_open t best ≡ true → fits_open t room ≡ true
 unfolding fits_open
-least_lose t room best e p =
-    elim (decided (eqb room 0)) [
-      | inl z ↦ or_left (eqb room 0) (leb t room) z
-      | inr z ↦ or_right (eqb room 0) (leb t room) (le-leb t room (enough z))
-    ]
-  where
-    enough : eqb room 0 ≡ false → t ≤ room
-    enough z =
-        let lost : (eqb best 0 || ltb room best) ≡ false = and_second_no (ltb 0 room) (eqb best 0 || ltb room best) e
-        (lt-ltb 0 room (omega (arith, eqb-false room 0 z))) in
-        elim (or_cases (eqb best 0) (leb t best) p) [
-          | inl h ↦ absurd (true≢false (sym h ∙ or_no_left (eqb best 0) (ltb room best) lost))
-          | inr l ↦ omega (arith, leb-true t best l, ltb-false room best (or_no_right (eqb best 0) (ltb room best) lost))
-        ]
+least_lose t room best q e p = grind (arith, nat_tests)
 
 pub least_fits : (t : ℕ) (rs : List ℕ) → fits_open t (least_above 0 rs).room ≡ every (λ r. eqb r 0 || leb t r) rs
 unfolding least_above none fits_open
 least_fits t rs =
-    scan_all (λ room best. ltb 0 room && (eqb best 0 || ltb room best)) (fits_open t) (λ r. Unit {0})
-    (λ room best q. least_win t room best) (λ room best q. least_lose t room best) 0 none rs (all_unit rs)
+    scan_all (less_above 0) (fits_open t) (λ r. Unit {0})
+    (least_win t) (least_lose t) 0 none rs (all_unit rs)
   where
     all_unit : (rs : List ℕ) → All (λ r. Unit {0}) rs
     all_unit [] = tt
     all_unit (r ∷ rs) = (tt, all_unit rs)
 
+not_chosen : (limit room best : ℕ) → less_above limit room best ≡ true → room ≡ 0 → ⊥
+not_chosen limit room best e z = grind (arith, nat_tests)
+
+none_above : (limit room best : ℕ) → less_above limit room best ≡ false → best ≡ 0 → room ≤ limit
+none_above limit room best e z = grind (arith, nat_tests)
+
 -- where no room is above the limit, none is found
 scan_least_none : (limit k : ℕ) (best : Spot) (rs : List ℕ) → (scan (less_above limit) k best rs).room ≡ 0 →
     (best.room ≡ 0) × All (λ r. r ≤ limit) rs
-unfolding scan less_above
+unfolding scan
 scan_least_none limit k best [] e = (e, tt)
 scan_least_none limit k best (r ∷ rs) e =
     elim (decided (less_above limit r best.room)) [
-      | inl h ↦ absurd (chosen h (scan_least_none limit (suc k) (spot k r) rs
+      | inl h ↦ absurd (not_chosen limit r best.room h (scan_least_none limit (suc k) (spot k r) rs
           (sym (ap (λ (s : Spot). s.room) (scan_yes (less_above limit) k best r rs h)) ∙ e)).0)
       | inr h ↦ let (z, a) = scan_least_none limit (suc k) best rs
-          (sym (ap (λ (s : Spot). s.room) (scan_no (less_above limit) k best r rs h)) ∙ e) in (z, (kept h z, a))
+          (sym (ap (λ (s : Spot). s.room) (scan_no (less_above limit) k best r rs h)) ∙ e) in (z, (none_above limit r best.room h z, a))
     ]
-  where
-    chosen : less_above limit r best.room ≡ true → r ≡ 0 → ⊥
-    chosen h z = omega (arith, ltb-true limit r (and_left (ltb limit r) (eqb best.room 0 || ltb r best.room) h))
-
-    kept : less_above limit r best.room ≡ false → best.room ≡ 0 → r ≤ limit
-    kept h z =
-        elim (decided (ltb limit r)) [
-          | inr l ↦ ltb-false limit r l
-          | inl l ↦ absurd (true≢false (sym (eq-eqb best.room 0 z)
-              ∙ or_no_left (eqb best.room 0) (ltb r best.room)
-              (and_second_no (ltb limit r) (eqb best.room 0 || ltb r best.room) h l)))
-        ]
 
 pub least_none : (limit : ℕ) (rs : List ℕ) → (least_above limit rs).room ≡ 0 → All (λ r. r ≤ limit) rs
-unfolding least_above less_above
+unfolding least_above
 least_none limit rs e = (scan_least_none limit 0 none rs e).1
 
 -- a row of at most the room found ends at a number of 32 bits

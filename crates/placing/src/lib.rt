@@ -1,78 +1,88 @@
-// Placing one job: the choice of its boards from their free-from minutes, and its rows in the lent table.
+// Placing one job: the choice of its boards from their free-from minutes, and its rows at the front of the lent table.
 // The answers are those of the definitions in crates/rules/specs/Planning.antt, on any free-from minutes, works and dues.
 // The idea: a scan keeps that the best spot so far leads to the same spot in the end. Steps 2 and 3 ask of the greatest room
 // and of the least room what 01 asks of every room; in step 4 both boards exist and differ, so that each row is written
 // from a free-from minute that the other has not changed.
 #![tactic(auto)]
 
-ghost use Rattle.std.specs.Prelude.{◌≡◌, [], ◌∷◌, ◌-◌, ◌≤◌};
-ghost use Rattle.rules.specs.Planning.{rooms, greatest_up_to, least_above, fill, place_last, place_other};
-ghost use Rattle.placing.specs.Rows.{job_of, row_from, split_over, with_rows, Ready, RowReady, Wrote};
+ghost use Rattle.std.specs.Prelude.{◌≡◌, Bool, ℕ, Some, [], ◌∷◌, ◌-◌, ◌≤◌};
+ghost use Rattle.laws.specs.Meant.{job_meant};
+ghost use Rattle.rules.specs.Planning.{rooms, scan, none, greatest_up_to, least_above, fill, place_last, place_other};
+ghost use Rattle.placing.specs.Rows.{row_from, split_over, with_rows, Ready, RowReady, Wrote};
 ghost use Rattle.placing.specs.Scans.{greater_up_to, less_above};
 
-use rules::Spot;
+use rules::{Job, Spot};
 
 // "a board's room is d minus its free-from minute, never below 0"
 pub fn room(due: u32, free: u32) -> u32
     ensures { result ≡ due - free }
 {
-    if free < due { due - free } else { 0 }
+    due.saturating_sub(free)
 }
 
-// A room is chosen over the best before it: the greatest that is not above the limit, and not 0.
-fn greater_up_to(limit: u32, here: u32, best: u32) -> bool
-    ensures { result ≡ greater_up_to limit here best }
-{
-    if best < here { here <= limit } else { false }
+// Which room is chosen over the best before it. A best room of 0 is that of no board, in a `Spot` too: the definitions have
+// no other word for "none", and what place_last answers for a job of no work rests on it.
+trait Choice {
+    ghost beats: { Self → ℕ → ℕ → Bool };
+
+    fn beats(&self, here: u32, best: u32) -> bool
+        ensures { result ≡ beats self.now here best };
 }
 
-// The same for the least room above the limit; 0 is the best of none.
-fn less_above(limit: u32, here: u32, best: u32) -> bool
-    ensures { result ≡ less_above limit here best }
-{
-    if here <= limit {
-        return false;
+// The greatest room that is not above the limit, and not 0.
+#[derive(Clone, Copy)]
+struct GreatestUpTo {
+    limit: u32,
+}
+
+impl Choice for GreatestUpTo {
+    ghost beats = { λ choice here best. greater_up_to choice.limit here best };
+
+    fn beats(&self, here: u32, best: u32) -> bool {
+        best < here && here <= self.limit
     }
-    if best == 0 { true } else { here < best }
 }
 
-// "Equal boards: the lowest number wins", since only a greater room takes the place of the best before it.
+// The least room above the limit.
+#[derive(Clone, Copy)]
+struct LeastAbove {
+    limit: u32,
+}
+
+impl Choice for LeastAbove {
+    ghost beats = { λ choice here best. less_above choice.limit here best };
+
+    fn beats(&self, here: u32, best: u32) -> bool {
+        self.limit < here && (best == 0 || here < best)
+    }
+}
+
+// "Equal boards: the lowest number wins", since a room takes the place of the best before it only where it beats it.
+fn choose<C: Choice>(choice: &C, due: u32, free: &[u32]) -> Spot
+    ensures { result ≡ scan (C.beats choice.now) 0 none (rooms due free.now) }
+{
+    let mut best = Spot { board: 0, room: 0 };
+    for (board, from) in free.iter().enumerate() {
+        let here = room(due, *from);
+        if choice.beats(here, best.room) {
+            best = Spot { board, room: here };
+        }
+    }
+    best
+}
+
+#[tactic(auto, unfolding(rules::specs::Planning::greatest_up_to))]
 pub fn greatest_up_to(limit: u32, due: u32, free: &[u32]) -> Spot
     ensures { result ≡ greatest_up_to limit (rooms due free.now) }
 {
-    let mut board: usize = 0;
-    let mut best: u32 = 0;
-    let mut i: usize = 0;
-    while i < free.len() {
-        let here = room(due, free[i]);
-        if greater_up_to(limit, here, best) {
-            board = i;
-            best = here;
-            i += 1;
-        } else {
-            i += 1;
-        }
-    }
-    Spot { board, room: best }
+    choose(&GreatestUpTo { limit }, due, free)
 }
 
+#[tactic(auto, unfolding(rules::specs::Planning::least_above))]
 pub fn least_above(limit: u32, due: u32, free: &[u32]) -> Spot
     ensures { result ≡ least_above limit (rooms due free.now) }
 {
-    let mut board: usize = 0;
-    let mut best: u32 = 0;
-    let mut i: usize = 0;
-    while i < free.len() {
-        let here = room(due, free[i]);
-        if less_above(limit, here, best) {
-            board = i;
-            best = here;
-            i += 1;
-        } else {
-            i += 1;
-        }
-    }
-    Spot { board, room: best }
+    choose(&LeastAbove { limit }, due, free)
 }
 
 // The board with the most room: no room is above the due minute.
@@ -82,100 +92,65 @@ fn most_room(due: u32, free: &[u32]) -> Spot
     greatest_up_to(due, due, free)
 }
 
-// `minutes` of a job on a board from its free-from minute on: the row, and the board's new free-from minute.
-fn add_row(number: u32, board: usize, minutes: u32, free: &mut [u32], table: &mut [u32], at: usize)
-    requires { RowReady free.old table.old board minutes at }
+// `minutes` of a job on a board from its free-from minute on: the row, and the board's new free-from minute. Both lists are
+// lent one by one, and no struct holds them: its methods would each have to say that its fields are still these two lists.
+// `as` goes to fewer bits: the proof shows that the number fits.
+fn add_row(number: u32, board: usize, minutes: u32, free: &mut [u32], table: &mut [u32])
+    requires { RowReady free.old table.old board minutes }
     ensures free_after { free.new ≡ fill free.old board minutes }
-    ensures table_after { table.new ≡ with_rows table.old at
-        (row_from free.old number board minutes ∷ []) }
+    ensures table_after { table.new ≡ with_rows (row_from free.old number board minutes ∷ []) table.old }
 {
     let from = free[board];
     let to = from + minutes;
-    let k = 4 * at;
-    table[k] = board as u32 + 1;
-    table[k + 1] = number;
-    table[k + 2] = from;
-    table[k + 3] = to;
+    table[..4].copy_from_slice(&[board as u32 + 1, number, from, to]);
     free[board] = to;
 }
 
 // 1. "The last job in due order goes to the board with the most room, in one row; 9 if t exceeds it."
-// The answer, here and below, is the number of rows written from row `at` on: 0 where the job cannot be placed.
-pub fn place_last(
-    number: u32,
-    work: u32,
-    due: u32,
-    free: &mut [u32],
-    table: &mut [u32],
-    at: usize,
-) -> usize
-    requires { Ready free.old table.old at }
-    ensures { Wrote (place_last free.old (job_of number work due)) free.old table.old
-        at result free.new table.new }
+// The answer, here and below, is the number of rows written at the table's front; none where the job cannot be placed.
+pub fn place_last(job: Job, free: &mut [u32], table: &mut [u32]) -> Option<usize>
+    requires { Ready free.old table.old }
+    ensures { Wrote (place_last free.old (job_meant job)) free.old table.old result free.new table.new }
 {
-    let most = most_room(due, free);
-    let board = most.board;
-    let most_room = most.room;
-    if most_room < work {
-        return 0;
+    let most = most_room(job.due, free);
+    if most.room < job.work {
+        return None;
     }
-    add_row(number, board, work, free, table, at);
-    1
+    add_row(job.number, most.board, job.work, free, table);
+    Some(1)
 }
 
 // 4. "The job fills A up to d. What is left goes on B from its free-from minute. If nothing is left there is no second row"
-fn place_two(
-    number: u32,
-    work: u32,
-    due: u32,
-    free: &mut [u32],
-    table: &mut [u32],
-    at: usize,
-) -> usize
-    requires ready { Ready free.old table.old at }
-    requires fits { work ≤ (greatest_up_to due (rooms due free.old)).room }
-    ensures { Wrote (split_over free.old number work due) free.old table.old
-        at result free.new table.new }
+fn place_two(job: Job, free: &mut [u32], table: &mut [u32]) -> usize
+    requires ready { Ready free.old table.old }
+    requires fits { job.work ≤ (greatest_up_to job.due (rooms job.due free.old)).room }
+    ensures { Wrote (split_over free.old (job_meant job)) free.old table.old (Some result) free.new table.new }
 {
-    let a = greatest_up_to(work, due, free);
-    let a_board = a.board;
-    let a_room = a.room;
-    if a_room == work {
-        add_row(number, a_board, work, free, table, at);
+    let a = greatest_up_to(job.work, job.due, free);
+    if a.room == job.work {
+        add_row(job.number, a.board, job.work, free, table);
         return 1;
     }
-    let b = least_above(work, due, free);
-    let b_board = b.board;
-    add_row(number, a_board, a_room, free, table, at);
-    add_row(number, b_board, work - a_room, free, table, at + 1);
+    let b = least_above(job.work, job.due, free);
+    let left = job.work - a.room;
+    add_row(job.number, a.board, a.room, free, table);
+    add_row(job.number, b.board, left, free, &mut table[4..]);
     2
 }
 
 // The jobs before the last: 2. "If t exceeds every room: 9." 3. "If t is at most every room that isn't 0: the board with
 // the least such room." 4. otherwise.
-pub fn place_other(
-    number: u32,
-    work: u32,
-    due: u32,
-    free: &mut [u32],
-    table: &mut [u32],
-    at: usize,
-) -> usize
-    requires { Ready free.old table.old at }
-    ensures { Wrote (place_other free.old (job_of number work due)) free.old table.old
-        at result free.new table.new }
+pub fn place_other(job: Job, free: &mut [u32], table: &mut [u32]) -> Option<usize>
+    requires { Ready free.old table.old }
+    ensures { Wrote (place_other free.old (job_meant job)) free.old table.old result free.new table.new }
 {
-    let most = most_room(due, free);
-    let most_room = most.room;
-    if most_room < work {
-        return 0;
+    if most_room(job.due, free).room < job.work {
+        return None;
     }
-    let least = least_above(0, due, free);
-    let board = least.board;
-    let least_room = least.room;
-    if work <= least_room {
-        add_row(number, board, work, free, table, at);
-        return 1;
+    let least = least_above(0, job.due, free);
+    if job.work <= least.room {
+        add_row(job.number, least.board, job.work, free, table);
+        return Some(1);
     }
-    place_two(number, work, due, free, table, at)
+    Some(place_two(job, free, table))
 }

@@ -1,5 +1,4 @@
 -- Laws of the plan file's bytes.
-pub mod Bytes
 pub mod Parts
 pub mod Rows
 pub mod Stores

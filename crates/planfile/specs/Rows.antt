@@ -1,10 +1,10 @@
 -- A row of a row part, as the four numbers that the decoder answers.
-use Rattle.std.specs.Prelude.{◌≡◌, refl, List, ℕ, ◌+◌, ◌*◌, ◌<◌, take, drop}
+use Rattle.std.specs.Prelude.{◌≡◌, refl, List, ℕ, ◌+◌, ◌*◌, ◌/◌, ◌≤◌, length, take, drop}
 use Rattle.std.proofs.Common.{sym, ap, ◌∙◌, arith, drop_of_length-le, drop-drop}
 use Rattle.rules.specs.Plans.{Row}
 use Rattle.rules.specs.PlanFiles.{value_of, decode_row, part_of}
-use Rattle.planfile.specs.declared.TableRow.{TableRow}
-use Rattle.planfile.specs.Parts.{part_length}
+use Rattle.rules.specs.declared.TableRow.{TableRow}
+use Rattle.planfile.specs.Parts.{part_whole}
 
 unfoldable pub table_row : Row → TableRow
 table_row r = record { board = r.board; job = r.job; from = r.from; to = r.to }
@@ -33,7 +33,9 @@ decoded part i b j f t p q r s =
     ∙ ap (λ (n : ℕ). four (value_of (take 2 (drop (12 * i) part))) (value_of (take 2 (drop 2 (drop (12 * i) part)))) n t) (field part (12 * i) 4 4 f r)
     ∙ ap (λ (n : ℕ). four (value_of (take 2 (drop (12 * i) part))) (value_of (take 2 (drop 2 (drop (12 * i) part)))) (value_of (take 4 (drop 4 (drop (12 * i) part)))) n) (field part (12 * i) 8 4 t s)
 
--- behind the last of 2,000 rows nothing stands
-pub none_behind : (file : List ℕ) (i : ℕ) → 2000 < i → four 0 0 0 0 ≡ table_row (row_at (part_of file) i)
+-- behind the last row nothing stands
+pub none_behind : (file : List ℕ) (i : ℕ) → length (part_of file) / 12 ≤ i → four 0 0 0 0 ≡ table_row (row_at (part_of file) i)
 unfolding table_row row_at decode_row value_of
-none_behind file i h = rw (drop_of_length-le (part_of file) {i = 12 * i} (omega (arith, part_length file))) refl
+none_behind file i h =
+    let w = part_whole file in
+    rw (drop_of_length-le (part_of file) {i = 12 * i} (omega (arith, w.1))) refl

@@ -1,9 +1,11 @@
 -- Laws of the writer's answer: the rows one by one, and one law for each way out.
-use Rattle.std.specs.Prelude.{◌≡◌, refl, true, false, ◌||◌, List, [], ◌∷◌, ◌++◌, ℕ, zero, suc, ◌+◌, ◌*◌, ◌-◌, ◌/◌, ◌≤◌, ◌<◌, length, get_or, take, drop, leb, ltb}
-use Rattle.std.proofs.Common.{sym, ap, ◌∙◌, append_assoc, append-nil, arith, length-append, length-drop, drop_of_length-le, drop-drop, get_or-drop, take_all, add-zero, sub-eq-zero_of_le, lt-ltb, le-ltb, le-leb, add-one}
-use Rattle.std.proofs.Math.Nat.{sub-zero}
-use Rattle.std.proofs.lemmas.Bool.{lt-leb}
-use Rattle.laws.specs.Tests.{pick_yes, pick_no, and_yes, and_no_left, and_no_right, or_left, or_right, or_no}
+use Rattle.std.specs.Prelude.{◌≡◌, refl, Result, Ok, Err, true, false, ◌||◌, not, Option, None, Some, option_map, cond, List, [], ◌∷◌, ◌++◌, ℕ, suc, ◌+◌, ◌*◌, ◌-◌, ◌/◌, ◌≤◌, ◌<◌, length, take, drop, ltb}
+use Rattle.std.specs.List.{position_from, position_or_len}
+use Rattle.std.proofs.lemmas.Iterator.Adapters.{position_from-zero}
+use Rattle.std.proofs.Common.{inl, inr, sym, ap, ap₂, length-take-le, ◌∙◌, append_assoc, append-nil, arith, length-append, length-drop, drop_of_length-le, drop-drop, take_all, lt-ltb, le-ltb, add-one}
+use borrow.Rule.Slice.PartMut.{put_mid}
+use Rattle.laws.specs.Tests.{decided, pick_yes, pick_no, or_left, or_right, or_no}
+use Rattle.refusals.specs.declared.Fault.{Fault}
 use Rattle.rules.specs.declared.Refusal.{Refusal}
 use Rattle.rules.specs.declared.Refusal.TheVariants.{BadLists, LongFile, OutOfRange, ShortBuffer}
 use Rattle.rules.specs.declared.Written.{Written}
@@ -11,11 +13,15 @@ use Rattle.rules.specs.Refusals.{number_of}
 use Rattle.rules.specs.Plans.{Row, first_row, rows_of}
 use Rattle.rules.specs.PlanFiles.{bytes_of, row_bytes, rows_bytes, row_fits, trailer_bytes, file_length, first_wide, first_wide_from, WriteAnswer, write_answer, refused_write, written}
 use Rattle.laws.specs.Rows.{length_rows_of}
-use Rattle.laws.specs.Stores.{stored, behind, length-stored}
-use Rattle.planfile.specs.Stores.{table_row_at, length_bytes_of}
+use Rattle.laws.specs.Found.{found, found_none, found_some, found_above}
+use Rattle.laws.specs.Stores.{stored, behind, stored-stored, stored_none}
+use Rattle.tablerows.specs.Chunks.{rows_in, rows_in-end, rows_in-more, rows_in-taken, length-rows_in}
+use Rattle.planfile.specs.Stores.{length_bytes_of}
 
-unfoldable pub refused_written : Refusal → ℕ → Written
-refused_written refusal place = record { refusal = number_of refusal; place = place; length = 0 }
+-- what the writer answers for a length, or for a refusal
+abbrev pub write_said : Result ℕ Fault → Written
+write_said (Ok n) = record { refusal = 0; place = 0; length = n }
+write_said (Err fault) = record { refusal = number_of fault.refusal; place = fault.place; length = 0 }
 
 -- ---- rows one by one
 
@@ -38,120 +44,54 @@ unfolding rows_bytes
 length-rows_bytes [] = refl
 length-rows_bytes (r ∷ rows) = omega (arith, length-append (row_bytes r) (rows_bytes rows), length-row_bytes r, length-rows_bytes rows)
 
-pub rows_bytes-append : (a b : List Row) → rows_bytes (a ++ b) ≡ rows_bytes a ++ rows_bytes b
+-- storing the first row, then the rows behind it, is storing them all
+pub rows_more : (b b' row rest later : List ℕ) (i : ℕ) → length row ≡ 4 → rest ≡ row ++ later → 12 * i + 12 * (length rest / 4) ≤ length b
+    → b' ≡ stored b (12 * i) (row_bytes (first_row row))
+    → stored b' (12 * (i + 1)) (rows_bytes (rows_in later)) ≡ stored b (12 * i) (rows_bytes (rows_in rest))
 unfolding rows_bytes
-rows_bytes-append [] b = refl
-rows_bytes-append (r ∷ a) b = ap (λ (l : List ℕ). row_bytes r ++ l) (rows_bytes-append a b) ∙ sym (append_assoc (row_bytes r) (rows_bytes a) (rows_bytes b))
+rows_more b b' row rest later i l e h p =
+    let v = row_bytes (first_row row) in
+    let w = rows_bytes (rows_in later) in
+    let m : length v ≡ 12 = length-row_bytes (first_row row) in
+    let n : length w ≡ 12 * (length later / 4) = length-rows_bytes (rows_in later) ∙ ap (λ (k : ℕ). 12 * k) (length-rows_in later) in
+    let sum : length rest ≡ length row + length later = ap length e ∙ length-append row later in
+    ap (λ (x : List ℕ). stored x (12 * (i + 1)) w) p
+    ∙ stored-stored b (12 * i) (12 * (i + 1)) v w (omega arith) (omega arith)
+    ∙ ap (λ (rows : List Row). stored b (12 * i) (rows_bytes rows)) (sym (ap rows_in e ∙ rows_in-more row later l))
 
-pub rows_of_snoc : (i : ℕ) (t : List ℕ) → rows_of (suc i) t ≡ rows_of i t ++ (table_row_at t i ∷ [])
-unfolding rows_of table_row_at
-rows_of_snoc zero t = refl
-rows_of_snoc (suc i) t =
-    ap (λ (l : List Row). first_row t ∷ l)
-    (rows_of_snoc i (drop 4 t) ∙ ap (λ (l : List ℕ). rows_of i (drop 4 t) ++ (first_row l ∷ [])) (drop-drop (4 * i) 4 t ∙ ap (λ (n : ℕ). drop n t) (four_more i)))
-  where
-    four_more : (i : ℕ) → 4 + 4 * i ≡ 4 * suc i
-    four_more i = omega arith
-
-pub bytes_snoc : (i : ℕ) (t : List ℕ) → rows_bytes (rows_of (i + 1) t) ≡ rows_bytes (rows_of i t) ++ row_bytes (table_row_at t i)
+pub rows_end : (b rest : List ℕ) (i : ℕ) → length rest < 4 → stored b (12 * i) (rows_bytes (rows_in rest)) ≡ b
 unfolding rows_bytes
-bytes_snoc i t =
-    ap (λ (n : ℕ). rows_bytes (rows_of n t)) (add-one i)
-    ∙ ap rows_bytes (rows_of_snoc i t)
-    ∙ rows_bytes-append (rows_of i t) (table_row_at t i ∷ [])
-    ∙ ap (λ (l : List ℕ). rows_bytes (rows_of i t) ++ l) (append-nil (row_bytes (table_row_at t i)))
-
-abbrev pub RowsPut : List ℕ → List ℕ → ℕ → List ℕ → Type 0
-RowsPut b₀ t i b = b ≡ stored b₀ 0 (rows_bytes (rows_of i t))
-
-pub rows_none : (b t : List ℕ) → RowsPut b t 0 b
-unfolding stored rows_of rows_bytes
-rows_none b t = refl
-
-pub rows-length : (b₀ t : List ℕ) (i : ℕ) (b : List ℕ) → 12 * i ≤ length b₀ → RowsPut b₀ t i b → length b ≡ length b₀
-rows-length b₀ t i b h e =
-    ap length e ∙ length-stored b₀ 0 (rows_bytes (rows_of i t)) (omega (arith, length-rows_bytes (rows_of i t), length_rows_of i t))
-
-pub rows_more : (b₀ t : List ℕ) (i : ℕ) (b b' : List ℕ) → 12 * i + 12 ≤ length b₀ → RowsPut b₀ t i b → b' ≡ stored b (12 * i) (row_bytes (table_row_at t i)) → RowsPut b₀ t (i + 1) b'
-rows_more b₀ t i b b' h p q =
-    behind b₀ b b' 0 (12 * i) (rows_bytes (rows_of i t)) (row_bytes (table_row_at t i)) p q
-    (omega (arith, length-rows_bytes (rows_of i t), length_rows_of i t))
-    (omega (arith, length-rows_bytes (rows_of i t), length_rows_of i t, length-row_bytes (table_row_at t i)))
-    ∙ ap (stored b₀ 0) (sym (bytes_snoc i t))
+rows_end b rest i h = ap (λ (rows : List Row). stored b (12 * i) (rows_bytes rows)) (rows_in-end rest h) ∙ sym (stored_none b (12 * i))
 
 -- ---- the first row that is too wide
 
-abbrev pub WideFrom : List ℕ → ℕ → ℕ → Type 0
-WideFrom t count i = first_wide_from (suc i) (rows_of (count - i) (drop (4 * i) t)) ≡ first_wide (rows_of count t)
-
-pub wide_start : (t : List ℕ) (count : ℕ) → WideFrom t count 0
-unfolding first_wide
-wide_start t count = ap (λ (n : ℕ). first_wide_from 1 (rows_of n t)) (sub-zero count)
-
-rows-cons : (t : List ℕ) (count i : ℕ) → i < count → rows_of (count - i) (drop (4 * i) t) ≡ table_row_at t i ∷ rows_of (count - (i + 1)) (drop (4 * (i + 1)) t)
-unfolding rows_of table_row_at
-rows-cons t count i h =
-    let e : count - i ≡ suc (count - (i + 1)) = omega arith in
-    let f : 4 * i + 4 ≡ 4 * (i + 1) = omega arith in
-    ap (λ (n : ℕ). rows_of n (drop (4 * i) t)) e
-    ∙ ap (λ (l : List ℕ). first_row (drop (4 * i) t) ∷ rows_of (count - (i + 1)) l) (drop-drop 4 (4 * i) t ∙ ap (λ (n : ℕ). drop n t) f)
-
-board_at : (t : List ℕ) (i : ℕ) → (table_row_at t i).board ≡ get_or t (4 * i) 0
-unfolding table_row_at first_row
-board_at t i = simp (get_or-drop, add-zero)
-
-job_at : (t : List ℕ) (i : ℕ) → (table_row_at t i).job ≡ get_or t (4 * i + 1) 0
-unfolding table_row_at first_row
-job_at t i = get_or-drop (4 * i) t 1 0
-
-found_wide : (t : List ℕ) (count i : ℕ) → i < count → row_fits (table_row_at t i) ≡ false → WideFrom t count i → i + 1 ≡ first_wide (rows_of count t)
+wide_from : (i : ℕ) (rows : List Row) → found (first_wide_from (suc i) rows) ≡ option_map (λ (n : ℕ). n + 1) (position_from (λ (r : Row). not (row_fits r)) i rows)
 unfolding first_wide_from
-found_wide t count i h e w =
-    add-one i
-    ∙ sym (pick_no (row_fits (table_row_at t i)) (first_wide_from (suc (suc i)) (rows_of (count - (i + 1)) (drop (4 * (i + 1)) t))) (suc i) e)
-    ∙ ap (first_wide_from (suc i)) (sym (rows-cons t count i h))
-    ∙ w
+wide_from i [] = refl
+wide_from i (r ∷ rows) =
+    elim (decided (row_fits r)) [
+      | inl e ↦ rw (e, add-one i) (wide_from (suc i) rows)
+      | inr e ↦ rw e (ap Some (sym (add-one i)))
+    ]
 
-pub wide_board : (t : List ℕ) (count i : ℕ) → i < count → 65535 < get_or t (4 * i) 0 → WideFrom t count i → i + 1 ≡ first_wide (rows_of count t)
-unfolding row_fits
-wide_board t count i h k w =
-    found_wide t count i h
-    (and_no_left (leb (table_row_at t i).board 65535) (leb (table_row_at t i).job 65535) (lt-leb (table_row_at t i).board 65535 (omega (arith, board_at t i))))
-    w
-
-pub wide_job : (t : List ℕ) (count i : ℕ) → i < count → 65535 < get_or t (4 * i + 1) 0 → WideFrom t count i → i + 1 ≡ first_wide (rows_of count t)
-unfolding row_fits
-wide_job t count i h k w =
-    found_wide t count i h
-    (and_no_right (leb (table_row_at t i).board 65535) (leb (table_row_at t i).job 65535) (lt-leb (table_row_at t i).job 65535 (omega (arith, job_at t i))))
-    w
-
-pub wide_more : (t : List ℕ) (count i : ℕ) → i < count → get_or t (4 * i) 0 ≤ 65535 → get_or t (4 * i + 1) 0 ≤ 65535 → WideFrom t count i → WideFrom t count (i + 1)
-unfolding first_wide_from row_fits
-wide_more t count i h b j w =
-    ap (λ (n : ℕ). first_wide_from (suc n) (rows_of (count - (i + 1)) (drop (4 * (i + 1)) t))) (add-one i)
-    ∙ sym (pick_yes (row_fits (table_row_at t i)) (first_wide_from (suc (suc i)) (rows_of (count - (i + 1)) (drop (4 * (i + 1)) t))) (suc i)
-    (and_yes (leb (table_row_at t i).board 65535) (leb (table_row_at t i).job 65535)
-    (le-leb (table_row_at t i).board 65535 (omega (arith, board_at t i)))
-    (le-leb (table_row_at t i).job 65535 (omega (arith, job_at t i)))))
-    ∙ ap (first_wide_from (suc i)) (sym (rows-cons t count i h))
-    ∙ w
-
-pub wide_end : (t : List ℕ) (count i : ℕ) → count ≤ i → WideFrom t count i → 0 ≡ first_wide (rows_of count t)
-unfolding first_wide_from rows_of
-wide_end t count i h w = sym (ap (λ (n : ℕ). first_wide_from (suc i) (rows_of n (drop (4 * i) t))) (sub-eq-zero_of_le h)) ∙ w
+-- what `position` answers, and the definition, which counts from 1
+pub wide_found : (rows : List Row) (r : Option ℕ)
+    → r ≡ cond (ltb (position_or_len (λ (r : Row). not (row_fits r)) rows) (length rows)) (Some (position_or_len (λ (r : Row). not (row_fits r)) rows)) None
+    → option_map (λ (n : ℕ). n + 1) r ≡ found (first_wide rows)
+unfolding first_wide
+wide_found rows r e = ap (option_map (λ (n : ℕ). n + 1)) (e ∙ position_from-zero (λ (r : Row). not (row_fits r)) rows) ∙ sym (wide_from 0 rows)
 
 -- ---- rows, then the trailer
 
-pub filled : (b b₁ b₂ b₃ t : List ℕ) (count note : ℕ) → 12 * count + 8 ≤ length b
-    → RowsPut b t count b₁
+pub filled : (b b₁ b₂ b₃ rows : List ℕ) (count note : ℕ) → count ≡ length rows / 4 → 12 * count + 8 ≤ length b
+    → b₁ ≡ stored b 0 (rows_bytes (rows_in rows))
     → b₂ ≡ stored b₁ (12 * count) (bytes_of 4 note)
     → b₃ ≡ stored b₂ (12 * count + 4) (bytes_of 4 count)
-    → b₃ ≡ stored b 0 (rows_bytes (rows_of count t) ++ trailer_bytes note count)
+    → b₃ ≡ stored b 0 (rows_bytes (rows_in rows) ++ trailer_bytes note count)
 unfolding trailer_bytes
-filled b b₁ b₂ b₃ t count note h p q r =
-    let v = rows_bytes (rows_of count t) in
-    let l : length v ≡ 12 * count = length-rows_bytes (rows_of count t) ∙ ap (λ (n : ℕ). 12 * n) (length_rows_of count t) in
+filled b b₁ b₂ b₃ rows count note e h p q r =
+    let v = rows_bytes (rows_in rows) in
+    let l : length v ≡ 12 * count = length-rows_bytes (rows_in rows) ∙ ap (λ (n : ℕ). 12 * n) (length-rows_in rows ∙ sym e) in
     let l₁ : length (bytes_of 4 note) ≡ 4 = length_bytes_of 4 note in
     let l₂ : length (bytes_of 4 count) ≡ 4 = length_bytes_of 4 count in
     let s : b₂ ≡ stored b 0 (v ++ bytes_of 4 note) = behind b b₁ b₂ 0 (12 * count) v (bytes_of 4 note) p q (omega arith) (omega arith) in
@@ -165,19 +105,21 @@ length-trailer p count =
     omega (arith, length-append (bytes_of 4 p) (bytes_of 4 count), length_bytes_of 4 p, length_bytes_of 4 count)
 
 -- what the part behind the note holds, said of the whole buffer
-pub written_whole : (b y t : List ℕ) (p count : ℕ) → p + 12 * count + 8 ≤ length b
-    → y ≡ stored (take (length b - p) (drop p b)) 0 (rows_bytes (rows_of count t) ++ trailer_bytes p count)
-    → take p b ++ (y ++ drop (length b - p) (drop p b)) ≡ written (rows_of count t) b p
+pub written_whole : (b y t : List ℕ) (p count : ℕ) → count ≤ length t / 4 → p + 12 * count + 8 ≤ length b
+    → y ≡ stored (take (length b - p) (drop p b)) 0 (rows_bytes (rows_in (take (4 * count) t)) ++ trailer_bytes p (length (take (4 * count) t) / 4))
+    → put_mid p (length b - p) b y ≡ written (rows_of count t) b p
 unfolding file_length written stored
-written_whole b y t p count h e =
+written_whole b y t p count fits h e =
     let v = rows_bytes (rows_of count t) in
     let w = trailer_bytes p count in
     let lv : length v ≡ 12 * count = length-rows_bytes (rows_of count t) ∙ ap (λ (n : ℕ). 12 * n) (length_rows_of count t) in
     let sum : p + (0 + length (v ++ w)) ≡ p + 12 * count + 8 = omega (arith, length-append v w, length-trailer p count) in
     let none : drop (length b - p) (drop p b) ≡ [] = drop_of_length-le (drop p b) {i = length b - p} (omega (arith, length-drop p b)) in
+    let quarter : length (take (4 * count) t) / 4 ≡ count = omega (arith, length-take-le (4 * count) t (omega arith)) in
+    let said : rows_bytes (rows_in (take (4 * count) t)) ++ trailer_bytes p (length (take (4 * count) t) / 4) ≡ v ++ w = ap₂ (λ (rows : List Row) (n : ℕ). rows_bytes rows ++ trailer_bytes p n) (rows_in-taken count t fits) quarter in
     let rest : y ≡ v ++ w ++ drop (p + 12 * count + 8) b =
     e
-    ∙ ap (λ (l : List ℕ). stored l 0 (v ++ w)) (take_all (length b - p) (drop p b) (omega (arith, length-drop p b)))
+    ∙ ap₂ (λ (l m : List ℕ). stored l 0 m) (take_all (length b - p) (drop p b) (omega (arith, length-drop p b))) said
     ∙ ap (λ (l : List ℕ). v ++ w ++ l) (drop-drop (0 + length (v ++ w)) p b ∙ ap (λ (n : ℕ). drop n b) sum) in
     ap (λ (l : List ℕ). take p b ++ (y ++ l)) none
     ∙ ap (λ (l : List ℕ). take p b ++ l) (append-nil y ∙ rest ∙ append_assoc v w (drop (p + 12 * count + 8) b))
@@ -188,11 +130,11 @@ written_whole b y t p count h e =
 module _ (t : List ℕ) (count : ℕ) (b : List ℕ) (p : ℕ) where
   -- a refusal's numbers, with the buffer as it was
   pub record Refuses (r : Refusal) (place : ℕ) : Type 0 where
-    pub said : refused_written r place ≡ (write_answer t count b p).said
+    pub said : write_said (Err (record { refusal = r; place = place })) ≡ (write_answer t count b p).said
     pub later : b ≡ (write_answer t count b p).buffer
 
   refuses : (r : Refusal) (place : ℕ) → write_answer t count b p ≡ refused_write r place b → Refuses r place
-  unfolding refused_write refused_written
+  unfolding refused_write
   refuses r place e = record {
     said = sym (ap (λ (a : WriteAnswer). a.said) e);
     later = sym (ap (λ (a : WriteAnswer). a.buffer) e);
@@ -222,17 +164,25 @@ module _ (t : List ℕ) (count : ℕ) (b : List ℕ) (p : ℕ) where
       unfolding file_length
       no_11 = or_no (ltb 2000 count) (ltb 65536 (file_length p count)) (le-ltb 2000 count few) (le-ltb 65536 (file_length p count) (omega arith))
 
-      pub wide_row : (r : ℕ) → r ≡ first_wide (rows_of count t) → 0 < r → Refuses OutOfRange r
+      abbrev pub Searched : Option ℕ → Type 0
+      Searched o = o ≡ found (first_wide (rows_in (take (4 * count) t)))
+
+      searched : (o : Option ℕ) → Searched o → o ≡ found (first_wide (rows_of count t))
+      searched o e = e ∙ ap (λ (rows : List Row). found (first_wide rows)) (rows_in-taken count t fits)
+
+      pub wide_row : (o : Option ℕ) (i : ℕ) → Searched o → o ≡ Some i → Refuses OutOfRange i
       unfolding write_answer
-      wide_row r e h =
-          rw e (refuses OutOfRange (first_wide (rows_of count t))
+      wide_row o i e s =
+          let w : o ≡ found (first_wide (rows_of count t)) = searched o e in
+          let at : first_wide (rows_of count t) ≡ i = found_some (first_wide (rows_of count t)) w s in
+          rw (← at) (refuses OutOfRange (first_wide (rows_of count t))
           (pick_no (ltb (length t) (4 * count)) _ _ no_13
           ∙ pick_no (ltb 2000 count || ltb 65536 (file_length p count)) _ _ no_11
-          ∙ pick_yes (ltb 0 (first_wide (rows_of count t))) _ _ (lt-ltb 0 (first_wide (rows_of count t)) (rw e at h))))
+          ∙ pick_yes (ltb 0 (first_wide (rows_of count t))) _ _ (lt-ltb 0 (first_wide (rows_of count t)) (found_above (first_wide (rows_of count t)) w s))))
 
-      module _ (r : ℕ) (e : r ≡ first_wide (rows_of count t)) (narrow : r ≤ 0) where
+      module _ (o : Option ℕ) (e : Searched o) (narrow : o ≡ None) where
         no_14 : ltb 0 (first_wide (rows_of count t)) ≡ false
-        no_14 = le-ltb 0 (first_wide (rows_of count t)) (rw e at narrow)
+        no_14 = le-ltb 0 (first_wide (rows_of count t)) (omega (arith, found_none (first_wide (rows_of count t)) (searched o e) narrow))
 
         pub short_buffer : length b < p + 12 * count + 8 → Refuses ShortBuffer 0
         unfolding write_answer file_length

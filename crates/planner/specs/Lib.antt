@@ -1,4 +1,4 @@
--- Laws of the loop over the jobs, and of the whole answer.
-pub mod Clearing
+-- What the planner says, and the laws of the loop over the jobs and of the whole answer.
+pub mod Said
 pub mod Jobs
 pub mod Days

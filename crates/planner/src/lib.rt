@@ -1,167 +1,130 @@
-// The planner: a table of rows for boards, works and dues, or a refusal. Its answer is that of the definition, plan_answer, for
-// all inputs: the numbers and the whole later table.
+// The planner: a table of rows for boards, works and dues, or a refusal. Its answer is that of the definition, plan_answer,
+// for all inputs: the numbers and the whole later table.
 // The idea: the loop over the jobs keeps that placing the jobs left, behind the rows so far, gives what placing all of them
 // gives, and that the table begins with the rows so far. What stands behind the rows is cleared once, at the end.
 #![tactic(auto)]
 
-ghost use Rattle.std.specs.Prelude.{◌≡◌, [], ◌++◌, map, ◌-◌, ◌≤◌, length, take};
-ghost use Rattle.rules.specs.Basics.{pick, zeros, most_jobs};
-ghost use Rattle.rules.specs.Refusals.{number_of};
+ghost use Rattle.std.specs.Prelude.{◌≡◌, [], map, ◌≤◌, length};
+ghost use Rattle.rules.specs.Basics.{zeros, most_jobs};
+ghost use Rattle.rules.specs.declared.Refusal.TheVariants.{NoPlan};
 ghost use Rattle.rules.specs.Plans.{jobs};
-ghost use Rattle.rules.specs.Planning.{place_last, place_other, due_order, place_all, placing, after_placing, plan_answer};
+ghost use Rattle.rules.specs.Planning.{due_order, place_all, placing, after_placing, plan_answer};
 ghost use Rattle.ordering.specs.Records.{job_in};
-ghost use Rattle.placing.specs.Rows.{job_of, Ready, Wrote};
+ghost use Rattle.planner.specs.Said.{planned_of, Answered};
 ghost use Rattle.planner.specs.Jobs.{Enough, Told};
-ghost use Rattle.planner.specs.Days.{Day};
+ghost use Rattle.planner.specs.Days.{Day, Tested};
 
-use rules::{Planned, Refusal};
+use placing::{place_last, place_other};
+use refusals::Fault;
+use rules::{Job, Planned, Refusal};
 
 // Limits of 01; crates/rules/specs/Basics.antt has them as most_jobs and most_boards.
 const MOST_JOBS: usize = 1000;
 
 const MOST_BOARDS: usize = 64;
 
-// "Refused: count 0"
-fn refused(refusal: Refusal, place: u32) -> Planned
-    ensures { result ≡ record { refusal = number_of refusal; place = place; rows = 0 } }
+// 9 names "the job being placed".
+fn no_plan(job: Job) -> Fault
+    ensures { result ≡ record { refusal = NoPlan; place = job.number } }
 {
-    Planned {
-        refusal: refusals::number(refusal),
-        place,
-        rows: 0,
+    Fault {
+        refusal: Refusal::NoPlan,
+        place: job.number,
     }
 }
 
-// Zeros to the table's end.
-fn clear_from(table: &mut [u32], from: usize)
-    ensures { table.new ≡ take from table.old ++ zeros (length table.old - from) }
-{
-    let mut i = from;
-    while i < table.len() {
-        table[i] = 0;
-        i += 1;
-    }
-}
-
-// One job, by step 1 or by steps 2 to 4.
-fn place_job(
-    last: bool,
-    number: u32,
-    work: u32,
-    due: u32,
-    free: &mut [u32],
-    table: &mut [u32],
-    at: usize,
-) -> usize
-    requires { Ready free.old table.old at }
-    ensures { Wrote
-        (pick last (place_last free.old (job_of number work due)) (place_other free.old (job_of number work due)))
-        free.old table.old
-        at result free.new table.new }
-{
-    if last {
-        placing::place_last(number, work, due, free, table, at)
-    } else {
-        placing::place_other(number, work, due, free, table, at)
-    }
-}
-
-// All jobs, from given free-from minutes: the answer's numbers, and the rows at the table's front. Behind them the table
-// may hold anything.
-fn place_jobs(records: &[u64], free: &mut [u32], table: &mut [u32]) -> Planned
+// All jobs, from given free-from minutes: the number of rows, and the rows at the table's front. Behind them the table may
+// hold anything. `as`, here and below, goes to or from `usize`: the proof shows that the number fits.
+fn place_jobs(records: &[u64], free: &mut [u32], table: &mut [u32]) -> Result<u32, Fault>
     requires { Enough records.now free.old table.old }
-    ensures { Told (place_all [] free.old (map job_in records.now)) table.old result
-        table.new }
+    ensures { Told (place_all [] free.old (map job_in records.now)) table.old result table.new }
 {
-    let n = records.len();
-    let mut count: usize = 0;
-    let mut i: usize = 0;
-    while i < n {
-        let job = records[i];
-        let number = ordering::record_number(job);
-        let work = ordering::record_work(job);
-        let due = ordering::record_due(job);
-        let added = place_job(i + 1 == n, number, work, due, free, table, count);
-        if added == 0 {
-            return refused(Refusal::NoPlan, number);
-        }
-        count += added;
-        i += 1;
+    let Some((last, others)) = records.split_last() else {
+        return Ok(0);
+    };
+    let mut rows: usize = 0;
+    // Not `ok_or(no_plan(job))?`: a `Result` made and taken apart costs 10 ns a job, a sixth of the time on 2 boards.
+    for record in others {
+        let job = ordering::job_in(*record);
+        let Some(added) = place_other(job, free, &mut table[4 * rows..]) else {
+            return Err(no_plan(job));
+        };
+        rows += added;
     }
-    Planned {
-        refusal: 0,
-        place: 0,
-        rows: count as u32,
-    }
+    let job = ordering::job_in(*last);
+    let Some(added) = place_last(job, free, &mut table[4 * rows..]) else {
+        return Err(no_plan(job));
+    };
+    rows += added;
+    Ok(rows as u32)
 }
 
 // The whole answer for jobs in due order, from given free-from minutes: the rows, then zeros; all zero for 9.
-fn plan_records(records: &[u64], free: &mut [u32], table: &mut [u32]) -> Planned
+fn plan_records(records: &[u64], free: &mut [u32], table: &mut [u32]) -> Result<u32, Fault>
     requires { Enough records.now free.old table.old }
-    ensures said { result ≡ (after_placing (place_all [] free.old (map job_in records.now))
-        table.old).said }
-    ensures later { table.new ≡ (after_placing (place_all [] free.old (map job_in records.now))
-        table.old).table }
+    ensures { Answered (after_placing (place_all [] free.old (map job_in records.now)) table.old) result table.new }
 {
     let said = place_jobs(records, free, table);
-    let rows = said.rows;
-    clear_from(table, 4 * (rows as usize));
+    lists::clear_from(table, 4 * said.unwrap_or(0) as usize);
     said
 }
 
-// The same for a day that has passed 13, 10 and 14, in scratch that is lent.
-fn plan_from(
-    work: &[u32],
-    due: &[u32],
-    free: &mut [u32],
-    records: &mut [u64],
-    scratch: &mut [u64],
-    table: &mut [u32],
-) -> Planned
-    requires day { Day free.old work.now due.now table.old }
-    requires records_long { most_jobs ≤ length records.old }
-    requires scratch_long { most_jobs ≤ length scratch.old }
-    ensures said { result ≡ (after_placing
-        (place_all [] free.old (due_order (jobs work.now due.now))) table.old).said }
-    ensures later { table.new ≡ (after_placing
-        (place_all [] free.old (due_order (jobs work.now due.now))) table.old).table }
+// "Each board has a free-from minute, at first 0". All scratch of the planner is here, of fixed size: 16,256 bytes.
+fn plan_day(boards: u32, work: &[u32], due: &[u32], table: &mut [u32]) -> Result<u32, Fault>
+    requires { Day boards work.now due.now table.old }
+    ensures { Answered (after_placing (placing boards work.now due.now) table.old) result table.new }
 {
     let n = work.len();
-    ordering::due_order(work, due, &mut records[..n], &mut scratch[..n]);
-    plan_records(&records[..n], free, table)
-}
-
-// "Each board has a free-from minute, at first 0". All scratch of the planner is here: 16,256 bytes.
-fn plan_day(boards: u32, work: &[u32], due: &[u32], table: &mut [u32]) -> Planned
-    requires { Day (zeros boards) work.now due.now table.old }
-    ensures said { result ≡ (after_placing (placing boards work.now due.now) table.old).said }
-    ensures later { table.new ≡ (after_placing (placing boards work.now due.now)
-        table.old).table }
-{
     let m = boards as usize;
     let mut records = [0u64; MOST_JOBS];
     let mut scratch = [0u64; MOST_JOBS];
     let mut free = [0u32; MOST_BOARDS];
-    plan_from(work, due, &mut free[..m], &mut records, &mut scratch, table)
+    ordering::due_order(work, due, &mut records[..n], &mut scratch[..n]);
+    plan_records(&records[..n], &mut free[..m], table)
 }
 
-// "Order: 12; 13; 10 (table under 8 numbers per job); 14; 9"
+// "Order: 12; 13; 10 (table under 8 numbers per job); 14". The checker's order is another: each answer has its own.
+fn test_day(boards: u32, work: &[u32], due: &[u32], table: &[u32]) -> Result<(), Fault>
+    ensures { Tested boards work.now due.now table.now result }
+{
+    if dayrules::bad_boards(boards) {
+        return Err(Refusal::BadBoards.into());
+    }
+    if dayrules::bad_lists(work, due) {
+        return Err(Refusal::BadLists.into());
+    }
+    if table.len() < 8 * work.len() {
+        return Err(Refusal::ShortBuffer.into());
+    }
+    match dayrules::first_out(work, due) {
+        None => Ok(()),
+        Some(number) => Err(Fault {
+            refusal: Refusal::OutOfRange,
+            place: number as u32,
+        }),
+    }
+}
+
+// The number of rows, or why there are none: 9 comes last. Works and dues are two lists, as C lends them.
+pub fn plan_rows(boards: u32, work: &[u32], due: &[u32], table: &mut [u32]) -> Result<u32, Fault>
+    ensures said { planned_of result ≡ (plan_answer boards work.now due.now table.old).said }
+    ensures later { table.new ≡ (plan_answer boards work.now due.now table.old).table }
+{
+    test_day(boards, work, due, table)?;
+    plan_day(boards, work, due, table)
+}
+
+// The same in the three numbers that C is given.
 pub fn plan(boards: u32, work: &[u32], due: &[u32], table: &mut [u32]) -> Planned
     ensures said { result ≡ (plan_answer boards work.now due.now table.old).said }
     ensures later { table.new ≡ (plan_answer boards work.now due.now table.old).table }
 {
-    if dayrules::bad_boards(boards) {
-        return refused(Refusal::BadBoards, 0);
+    match plan_rows(boards, work, due, table) {
+        Ok(rows) => Planned {
+            refusal: 0,
+            place: 0,
+            rows,
+        },
+        Err(fault) => Planned::from(fault),
     }
-    if dayrules::bad_lists(work, due) {
-        return refused(Refusal::BadLists, 0);
-    }
-    if table.len() < 8 * work.len() {
-        return refused(Refusal::ShortBuffer, 0);
-    }
-    let out = dayrules::first_out(work, due);
-    if 0 < out {
-        return refused(Refusal::OutOfRange, out as u32);
-    }
-    plan_day(boards, work, due, table)
 }

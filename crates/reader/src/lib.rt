@@ -1,70 +1,110 @@
-// The order reader: any bytes and two lent buffers, and always an answer, accepted or refused.
-// The idea of the proof: the loop's state and lists hold a reading of the definition, and one turn of the loop is one of its
-// steps. So what is still to be read from the place on stays what is to be read from the start.
+// The order reader: any bytes and two lent buffers, and always an answer, accepted or refused. The idea of the proof: the
+// state holds a reading of the definition, and one step is one of its steps. So what is still to be read from the place on
+// stays what is to be read from the start.
 #![tactic(auto)]
 
-ghost use Rattle.std.specs.Prelude.{◌≡◌, ◌≤◌, length};
-ghost use Rattle.rules.specs.Basics.{most_jobs, most_levels};
+ghost use Rattle.std.specs.Prelude.{◌≡◌};
 ghost use Rattle.rules.specs.Orders.{read_answer};
-ghost use Rattle.grammar.specs.Turns.{Finished};
+ghost use Rattle.grammar.specs.Turns.{Finished, Lent, said_of};
+ghost use Rattle.reader.specs.Ways.{Fits, Ready, Steps};
 
-use grammar::{Ended, State, Turn, answer, decide, leave, smaller, take_in, untouched, want_next};
+use grammar::{Order, State, Turn, clear_behind};
 use lexer::next_token;
-use rules::{OrderRead, Refusal, Wanted};
+use refusals::Fault;
+use rules::{OrderRead, Refusal};
 
-// Token by token from the left; the first fault decides. Each turn that goes on moves the place forward.
-fn read_tokens(file: &[u8], work: &mut [u32], due: &mut [u32], least: &mut [u32]) -> Ended
-    requires { (most_jobs ≤ length work.old) × (most_jobs ≤ length due.old) × (most_levels ≤ length least.old) }
-    ensures { Finished file.now result work.new due.new }
+// One token: on to the next, or the order read whole, or the first fault at the token's first byte. `as` goes to fewer bits:
+// the proof shows that the place fits.
+pub fn step(state: &mut State) -> Result<Option<Order>, Fault>
+    requires { Ready state.old }
+    ensures lent { Lent state.old state.new }
+    ensures steps { Steps state.old result state.new }
 {
-    let mut at: usize = 0;
-    let mut state = State {
-        wanted: Wanted::OrderOpen,
-        boards: 0,
-        level: 0,
-        jobs: 0,
+    let seen = next_token(state.file, state.at);
+    let turn = match state.decide(seen.token, seen.place) {
+        Ok(turn) => turn,
+        Err(stop) => {
+            return Err(Fault {
+                refusal: stop.refusal,
+                place: stop.place as u32,
+            });
+        }
     };
-    loop {
-        let seen = next_token(file, at);
-        let token = seen.token;
-        let turn = decide(state, token, seen.place);
-        match turn {
-            Turn::Stop(refusal, place) => {
-                return Ended::Refused(refusal, place);
-            }
-            Turn::Done => {
-                return Ended::Accepted(state.boards, state.jobs);
-            }
-            Turn::Want(wanted) => {
-                state = want_next(state, wanted);
-                at = seen.next;
-            }
-            Turn::Take(n) => {
-                state = take_in(state, n, work, due, least);
-                at = seen.next;
-            }
-            Turn::Leave => {
-                state = leave(state);
-                at = seen.next;
+    match turn {
+        Turn::Want(wanted) => state.want_next(wanted),
+        Turn::Take(n) => state.take_in(n),
+        Turn::Leave => state.leave(),
+        Turn::Done => return Ok(Some(state.order())),
+    }
+    state.at = seen.next;
+    Ok(None)
+}
+
+// A way of reading: token by token from the left, the first fault decides.
+pub trait Way {
+    fn order(file: &[u8], work: &mut [u32], due: &mut [u32]) -> Result<Order, Fault>
+        requires { Fits file.now work.old due.old }
+        ensures { Finished file.now result work.new due.new };
+}
+
+// One loop over the tokens.
+pub struct InTurn;
+
+impl Way for InTurn {
+    fn order(file: &[u8], work: &mut [u32], due: &mut [u32]) -> Result<Order, Fault> {
+        let mut least = [0u32; 32];
+        let mut state = State::start(file, work, due, &mut least);
+        loop {
+            if let Some(order) = step(&mut state)? {
+                return Ok(order);
             }
         }
     }
 }
 
 // 01, Reader: "Order: 10 (either of the two buffers, work and due, holds under 1,000 numbers), 11, then token by token".
+pub fn read_by<W: Way>(file: &[u8], work: &mut [u32], due: &mut [u32]) -> Result<Order, Fault>
+    ensures said { said_of result ≡ (read_answer file.now work.old due.old).said }
+    ensures works { work.new ≡ (read_answer file.now work.old due.old).work }
+    ensures dues { due.new ≡ (read_answer file.now work.old due.old).due }
+{
+    let room = work.len().min(due.len());
+    if room < 1000 {
+        return Err(Fault::from(Refusal::ShortBuffer));
+    }
+    if 65536 < file.len() {
+        return Err(Fault::from(Refusal::LongFile));
+    }
+    let ended = W::order(file, work, due);
+    clear_behind(ended, work, due);
+    ended
+}
+
+// The reader that ships, for callers in Rattle.
+pub fn read(file: &[u8], work: &mut [u32], due: &mut [u32]) -> Result<Order, Fault>
+    ensures said { said_of result ≡ (read_answer file.now work.old due.old).said }
+    ensures works { work.new ≡ (read_answer file.now work.old due.old).work }
+    ensures dues { due.new ≡ (read_answer file.now work.old due.old).due }
+{
+    read_by::<InTurn>(file, work, due)
+}
+
+// What a reading answers in numbers.
+#[tactic(auto, unfolding(grammar::specs::Turns::said_of))]
+pub fn said(ended: Result<Order, Fault>) -> OrderRead
+    ensures { result ≡ said_of ended }
+{
+    match ended {
+        Ok(order) => OrderRead::from(order),
+        Err(fault) => OrderRead::from(fault),
+    }
+}
+
+// The reader that ships, for callers that take numbers.
 pub fn read_order(file: &[u8], work: &mut [u32], due: &mut [u32]) -> OrderRead
     ensures said { result ≡ (read_answer file.now work.old due.old).said }
     ensures works { work.new ≡ (read_answer file.now work.old due.old).work }
     ensures dues { due.new ≡ (read_answer file.now work.old due.old).due }
 {
-    let room = smaller(work.len(), due.len());
-    if room < 1000 {
-        return untouched(Refusal::ShortBuffer);
-    }
-    if 65536 < file.len() {
-        return untouched(Refusal::LongFile);
-    }
-    let mut least = [0u32; 32];
-    let ended = read_tokens(file, work, due, &mut least);
-    answer(ended, work, due)
+    said(read(file, work, due))
 }

@@ -1,32 +1,38 @@
 -- The blanks skipped change no token; behind them each return cites the law of the byte that stands there.
 use Rattle.std.proofs.Common.{ap, arith, sym, true≢false, ◌∙◌, ◌∷◌}
-use Rattle.lexer.specs.Laws.{seen, tokens_end, tokens_open, tokens_close, tokens_foreign}
-use Rattle.lexer.specs.Scan.{tokens_at, behind, is_last, placed}
+use Rattle.lexer.specs.Laws.{blanks_skipped, atom_read, seen, tokens_end, tokens_open, tokens_close, tokens_foreign}
+use Rattle.lexer.specs.Scan.{tokens_at, behind, is_last, placed, AtomRead, BlanksSkipped}
 use Rattle.rules.specs.declared.Token.TheVariants.{Atom, Open, Close, End, Foreign}
 use Rattle.rules.specs.declared.Word.{Word}
 use Rattle.lexer.proofs.next_token.Goals as goal
 
-pub returns-then-s-from : goal.returns-then-s-from
+pub returns-then-s-place : goal.returns-then-s-place
 unfolding behind is_last
-returns-then-s-from c =
-    seen c.args.s.now c.args.at c.skip_blanks-from.result c.skip_blanks-from.ensures End c.skip_blanks-from.result (tokens_end c.args.s.now c.skip_blanks-from.result c.if-s-from.true) (λ h. absurd (true≢false h)) (λ h. h)
+returns-then-s-place c =
+    let b : BlanksSkipped c.args.s.now c.args.at c.run_end-place.result = blanks_skipped _ (λ b t h. h) _ _ _ c.run_end-place.ensures in
+    seen _ _ _ b End _ (tokens_end _ _ c.if-s-place.true) (λ h. absurd (true≢false h)) (λ h. h)
 
-pub returns-then-is_letter_or_digit : goal.returns-then-is_letter_or_digit
+pub returns-in-40 : goal.returns-in-40
 unfolding behind is_last
-returns-then-is_letter_or_digit c =
-    seen c.args.s.now c.args.at c.skip_blanks-from.result c.skip_blanks-from.ensures (Atom c.kind_of.result) c.atom_end-to.result (c.atom_end-to.ensures.tells ∙ ap (λ (w : Word). placed (Atom w) c.skip_blanks-from.result ∷ tokens_at c.args.s.now c.atom_end-to.result) (sym c.kind_of.ensures)) (λ h. c.atom_end-to.ensures.onward) (λ h. c.atom_end-to.ensures.inside)
+returns-in-40 c =
+    let b : BlanksSkipped c.args.s.now c.args.at c.run_end-place.result = blanks_skipped _ (λ b t h. h) _ _ _ c.run_end-place.ensures in
+    seen _ _ _ b Open _ (tokens_open _ _ (omega arith) (b.no_blank (omega arith)) c.in-40.is) (λ h. omega arith) (λ h. omega arith)
 
-pub returns-then-s-from-eq40 : goal.returns-then-s-from-eq40
+pub returns-in-41 : goal.returns-in-41
 unfolding behind is_last
-returns-then-s-from-eq40 c =
-    seen c.args.s.now c.args.at c.skip_blanks-from.result c.skip_blanks-from.ensures Open _ (tokens_open c.args.s.now c.skip_blanks-from.result (omega arith) (c.skip_blanks-from.ensures.no_blank (omega arith)) c.if-s-from-eq40.true) (λ h. omega arith) (λ h. omega arith)
+returns-in-41 c =
+    let b : BlanksSkipped c.args.s.now c.args.at c.run_end-place.result = blanks_skipped _ (λ b t h. h) _ _ _ c.run_end-place.ensures in
+    seen _ _ _ b Close _ (tokens_close _ _ (omega arith) (b.no_blank (omega arith)) c.in-41.is) (λ h. omega arith) (λ h. omega arith)
 
-pub returns-then-s-from-eq41 : goal.returns-then-s-from-eq41
+pub returns-in_default : goal.returns-in_default
 unfolding behind is_last
-returns-then-s-from-eq41 c =
-    seen c.args.s.now c.args.at c.skip_blanks-from.result c.skip_blanks-from.ensures Close _ (tokens_close c.args.s.now c.skip_blanks-from.result (omega arith) (c.skip_blanks-from.ensures.no_blank (omega arith)) c.if-s-from-eq41.true) (λ h. omega arith) (λ h. omega arith)
+returns-in_default c =
+    let b : BlanksSkipped c.args.s.now c.args.at c.run_end-place.result = blanks_skipped _ (λ b t h. h) _ _ _ c.run_end-place.ensures in
+    let a : AtomRead c.args.s.now c.run_end-place.result c.run_end-end.result = atom_read _ (λ b t h. h) _ _ _ (omega arith) (sym c.is_letter_or_digit.ensures ∙ c.if-is_letter_or_digit.true) c.run_end-end.ensures in
+    seen _ _ _ b (Atom c.kind_of.result) _ (a.tells ∙ ap (λ (w : Word). placed (Atom w) c.run_end-place.result ∷ tokens_at c.args.s.now c.run_end-end.result) (sym c.kind_of.ensures)) (λ h. a.onward) (λ h. a.inside)
 
-pub returns : goal.returns
+pub returns-in_default-2 : goal.returns-in_default-2
 unfolding behind is_last
-returns c =
-    seen c.args.s.now c.args.at c.skip_blanks-from.result c.skip_blanks-from.ensures Foreign _ (tokens_foreign c.args.s.now c.skip_blanks-from.result (omega arith) (c.skip_blanks-from.ensures.no_blank (omega arith)) (sym c.is_letter_or_digit.ensures ∙ c.if-is_letter_or_digit.false) c.if-s-from-eq40.false c.if-s-from-eq41.false) (λ h. absurd (true≢false h)) (λ h. h)
+returns-in_default-2 c =
+    let b : BlanksSkipped c.args.s.now c.args.at c.run_end-place.result = blanks_skipped _ (λ b t h. h) _ _ _ c.run_end-place.ensures in
+    seen _ _ _ b Foreign _ (tokens_foreign _ _ (omega arith) (b.no_blank (omega arith)) (sym c.is_letter_or_digit.ensures ∙ c.if-is_letter_or_digit.false) (λ q. absurd (omega arith)) (λ q. absurd (omega arith))) (λ h. absurd (true≢false h)) (λ h. h)

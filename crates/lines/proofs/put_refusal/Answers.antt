@@ -1,8 +1,12 @@
 -- The word, then its two numbers as fields.
-use Rattle.std.proofs.Common.{arith}
-use Rattle.lines.specs.Fields.{refusal_put}
+use Rattle.std.proofs.Common.{arith, refl, rules}
+use Rattle.rules.specs.Listings.{refused_line}
+use Rattle.lines.specs.Pages.{puts_then, room_left, page_put}
 use Rattle.lines.proofs.put_refusal.Goals as goal
 
+pub fields-requires : goal.fields-requires
+fields-requires c = room_left _ (omega arith) c.text.ensures
+
 pub returns : goal.returns
-returns c =
-    refusal_put _ _ _ _ _ c.args.refusal c.args.place (omega arith) c.put_text-to.ensures.0 c.put_fields.ensures.put
+unfolding refused_line
+returns c = page_put refl (puts_then (omega arith) c.text.ensures c.fields.ensures) (search rules)

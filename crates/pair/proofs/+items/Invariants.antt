@@ -3,7 +3,8 @@
 -- The group's invariant: the next item or the closing bracket is wanted, at the group's own level.
 use Rattle.std.proofs.Common.{◌≡◌, ◌+◌, ◌-◌, ◌≤◌, length}
 use Rattle.rules.specs.declared.Wanted.TheVariants.{ItemOrClose}
-use Rattle.pair.specs.Moves.{Ready}
+use Rattle.grammar.specs.Turns.{Lent}
+use Rattle.reader.specs.Ways.{Ready}
 use Rattle.pair.proofs.+items.Given as goal
 
 abbrev pub decreases-group : goal.decreases-group
@@ -12,13 +13,14 @@ decreases-group l = l.levels + l.levels + 1
 abbrev pub decreases-item : goal.decreases-item
 decreases-item l = l.levels + l.levels
 
-abbrev pub invariant-group-loop-inner : goal.invariant-group-loop-inner
-invariant-group-loop-inner l = record {
-  ready : Ready l.file l.from l.here l.work l.due l.least;
-  at_item : l.here.wanted ≡ ItemOrClose;
-  same_level : l.here.level ≡ l.initial.here.level;
-  onward : l.at ≤ l.from;
+abbrev pub invariant-group-loop-state : goal.invariant-group-loop-state
+invariant-group-loop-state l = record {
+  ready : Ready l.state;
+  lent : Lent l.fn.state l.state;
+  at_item : l.state.wanted ≡ ItemOrClose;
+  same_level : l.state.level ≡ l.fn.state.level;
+  onward : l.fn.state.at ≤ l.state.at;
 }
 
-abbrev pub decreases-group-loop-inner : goal.decreases-group-loop-inner
-decreases-group-loop-inner l = length l.file - l.from
+abbrev pub decreases-group-loop-state : goal.decreases-group-loop-state
+decreases-group-loop-state l = length l.state.file.now - l.state.at

@@ -1,23 +1,30 @@
 -- A token that goes on leaves one token fewer to go, and three turns have three tokens behind them.
-use Rattle.std.proofs.Common.{arith, ◌∙◌, ◌≡◌}
-use Rattle.pair.specs.Laws.{ready_on, togo_less, togo_none}
+use Rattle.std.proofs.Common.{◌≡◌, ◌≤◌, ◌-◌, ◌∙◌, arith}
+use Rattle.grammar.specs.Steps.{lent_on}
+use Rattle.pair.specs.Laws.{goes_on, not_finish, togo_less, togo_none}
+use Rattle.pair.specs.Moves.{togo}
 use Rattle.pair.proofs.three.Goals as goal
 
-pub loop-left-preserved : goal.loop-left-preserved
-loop-left-preserved c =
-    let i = c.loop-left.invariant in
-    let s = c.in-On.ensures in
-    let m = togo_less c.loop-left.here c.in-On.next c.loop-left.left i.to_go c.loop-left-test.true i.few s.2 in
+pub loop-preserved : goal.loop-preserved
+loop-preserved c =
+    let i = c.loop.invariant in
+    let left : togo c.loop.state.wanted ≡ 3 - c.loop.counter = omega (arith, i.to_go) in
+    let few : 3 - c.loop.counter ≤ 3 = omega arith in
+    let on = goes_on c.loop.state c.in_ok-step.field-0 c.step.new.state (not_finish _ _ left few) c.in_ok-step.ensures.steps in
+    let m = togo_less c.loop.state c.step.new.state (3 - c.loop.counter) left (omega (arith, c.loop-test.true)) few on.there in
     record {
-      ready = ready_on _ _ _ _ _ _ _ _ _ _ _ i.ready (record { same_work = c.step-reached.auto.work; same_due = c.step-reached.auto.due; same_least = c.step-reached.auto.least }) s.0;
-      to_go = m.0;
+      ready = on.ready;
+      lent = lent_on _ _ _ i.lent c.step.ensures.lent;
+      to_go = omega (arith, m.0, c.loop-test.true);
       same_level = m.1 ∙ i.same_level;
-      few = omega (arith, i.few);
-      onward = omega (arith, s.1, i.onward);
+      onward = omega (arith, on.later, i.onward);
     }
 
 pub returns : goal.returns
 returns c =
-    let i = c.loop-left.invariant in
-    let none : c.loop-left.left ≡ 0 = omega arith in
-    (i.ready.stands, omega (arith, i.onward), (togo_none c.loop-left.here.wanted (i.to_go ∙ none), i.same_level))
+    let i = c.loop.invariant in
+    let none : togo c.loop.state.wanted ≡ 0 = omega (arith, i.to_go, c.loop-test.false) in
+    record {
+      lent = i.lent;
+      to = record { ready = i.ready; later = omega (arith, i.onward, c.loop-test.false); there = (togo_none c.loop.state.wanted none, i.same_level) };
+    }

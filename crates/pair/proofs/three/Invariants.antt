@@ -1,16 +1,15 @@
 -- The invariant: as many tokens without choice are to go as turns are left, at the level of the start.
 use Rattle.std.proofs.Common.{◌+◌, ◌≡◌, ◌≤◌}
-use Rattle.pair.specs.Moves.{Ready, togo}
+use Rattle.grammar.specs.Turns.{Lent}
+use Rattle.reader.specs.Ways.{Ready}
+use Rattle.pair.specs.Moves.{togo}
 use Rattle.pair.proofs.three.Given as goal
 
-abbrev pub invariant-loop-left : goal.invariant-loop-left
-invariant-loop-left l = record {
-  ready : Ready l.file l.from l.here l.work l.due l.least;
-  to_go : togo l.here.wanted ≡ l.left;
-  same_level : l.here.level ≡ l.initial.here.level;
-  few : l.left ≤ 3;
-  onward : l.at + 3 ≤ l.from + l.left;
+abbrev pub invariant-loop : goal.invariant-loop
+invariant-loop l = record {
+  ready : Ready l.state;
+  lent : Lent l.initial.state l.state;
+  to_go : togo l.state.wanted + l.counter ≡ 3;
+  same_level : l.state.level ≡ l.initial.state.level;
+  onward : l.initial.state.at + l.counter ≤ l.state.at;
 }
-
-abbrev pub decreases-loop-left : goal.decreases-loop-left
-decreases-loop-left l = l.left

@@ -1,5 +1,5 @@
--- Four stores are one row; the numbers fit, since a job's row ends by a number of 32 bits.
-use Rattle.std.proofs.Common.{refl}
+-- Four numbers over the table's first four are one row.
+use Rattle.std.proofs.Common.{refl, ap, ◌∙◌, List, ℕ, drop, ◌++◌}
 use Rattle.rules.specs.Planning.{fill}
 use Rattle.placing.specs.Writes.{row_stored}
 use Rattle.placing.proofs.add_row.Goals as goal
@@ -10,5 +10,6 @@ returns c =
     let a = c.args in
     record {
       free_after = refl;
-      table_after = row_stored a.table.now a.free.now a.number a.board a.minutes a.at;
+      table_after = ap (λ (l : List ℕ). l ++ drop 4 a.table.now) c.copy_from_slice.ensures.after
+          ∙ row_stored a.table.now a.free.now a.number a.board a.minutes;
     }

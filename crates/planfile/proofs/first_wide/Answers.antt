@@ -1,22 +1,22 @@
--- The first wide row from row `i` on is the first wide row of all: each turn stops at a wide row, or passes a narrow one.
-use Rattle.std.proofs.Common.{arith}
-use Rattle.planfile.specs.Writes.{wide_start, wide_board, wide_job, wide_more, wide_end}
+-- The rows are gone through as chunks of four numbers; the definition counts them from 1.
+use Rattle.std.proofs.Common.{◌+◌, ℕ, not, option_map, ap, sym, ◌∙◌, rules, tests}
+use Rattle.std.proofs.lemmas.Iterator.Search.{position_from_yields_List}
+use Rattle.rules.specs.Plans.{Row}
+use Rattle.rules.specs.PlanFiles.{row_fits}
+use Rattle.tablerows.specs.Chunks.{rows_in, row_chunks}
+use Rattle.planfile.specs.Writes.{wide_found}
 use Rattle.planfile.proofs.first_wide.Goals as goal
 
-pub loop-i-init : goal.loop-i-init
-loop-i-init c = (omega arith, wide_start c.args.table.now c.args.count)
+pub returns-in_err-before-clause-first : goal.returns-in_err-before-clause-first
+returns-in_err-before-clause-first c =
+    c.from_residual.ensures ∙ ap (option_map (λ (n : ℕ). n + 1)) (sym c.in_err-before.was)
+    ∙ wide_found (rows_in c.args.rows.now) _
+    (position_from_yields_List (λ (r : Row). not (row_fits r)) _ _ c.position.result c.position.ensures.ran
+    (row_chunks c.args.rows.now _ c.chunks_exact.ensures.rest c.chunks_exact.ensures.size) (λ x b q k. search (rules, tests)))
 
-pub returns-then-table-i-gt65535 : goal.returns-then-table-i-gt65535
-returns-then-table-i-gt65535 c =
-    (wide_board _ _ _ c.loop-i-test.true c.if-table-i-gt65535.true c.loop-i.invariant.1, omega arith)
-
-pub returns-then-table-i-gt-LARGEST_JOB : goal.returns-then-table-i-gt-LARGEST_JOB
-returns-then-table-i-gt-LARGEST_JOB c =
-    (wide_job c.args.table.now c.args.count c.loop-i.i c.loop-i-test.true (omega arith) c.loop-i.invariant.1, omega arith)
-
-pub loop-i-preserved : goal.loop-i-preserved
-loop-i-preserved c =
-    (omega arith, wide_more _ _ _ c.loop-i-test.true c.if-table-i-gt65535.false c.if-table-i-gt-LARGEST_JOB.false c.loop-i.invariant.1)
-
-pub returns : goal.returns
-returns c = (wide_end _ _ _ c.loop-i-test.false c.loop-i.invariant.1, omega arith)
+pub returns-clause-first : goal.returns-clause-first
+returns-clause-first c =
+    ap (option_map (λ (n : ℕ). n + 1)) (sym c.in_ok-before.was)
+    ∙ wide_found (rows_in c.args.rows.now) _
+    (position_from_yields_List (λ (r : Row). not (row_fits r)) _ _ c.position.result c.position.ensures.ran
+    (row_chunks c.args.rows.now _ c.chunks_exact.ensures.rest c.chunks_exact.ensures.size) (λ x b q k. search (rules, tests)))
