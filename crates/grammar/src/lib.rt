@@ -1,7 +1,8 @@
 // One token's turn of the order grammar, and what is left in the buffers: what the reader that ships and the pair of readers
 // share. The works and dues read so far stand at the front of the buffers, and for each group round the place the least due
-// of it and of the groups round it stands in a list of 32. The idea of the proof: the state stands for a `Reading` of the
-// definition; a turn means one of the definition's steps, and acting on it changes the state as it changes the reading.
+// of it and of the groups round it stands in a list of 32.
+// The idea of the proof: the state stands for a `Reading` of the definition; a turn means one of the definition's steps, and
+// acting on it changes the state as it changes the reading.
 #![tactic(auto)]
 
 ghost use Rattle.std.specs.Prelude.{◌≡◌, Result, Ok, Err, List, ℕ, ◌≤◌, eqb, ltb, length, get_or, set};
@@ -12,6 +13,11 @@ ghost use Rattle.grammar.specs.Turns.{acted, meant, misplaced_as, capped, said_o
 use lists::clear_from;
 use refusals::Fault;
 use rules::{OrderRead, Refusal, Token, Wanted, Word};
+
+// 01: "Boards run to 64; work and due to 1,000,000".
+const MOST_BOARDS: u32 = 64;
+
+const MOST_MINUTES: u32 = 1000000;
 
 // 01: "level 32 is the deepest".
 const MOST_LEVELS: usize = 32;
@@ -50,11 +56,6 @@ pub enum Turn {
     Leave,
     Done,
 }
-
-// 01: "Boards run to 64; work and due to 1,000,000".
-const MOST_BOARDS: u32 = 64;
-
-const MOST_MINUTES: u32 = 1000000;
 
 // Why the reading stops, and at which byte.
 #[derive(Clone, Copy)]
@@ -95,7 +96,8 @@ fn stop_at(refusal: Refusal, place: usize) -> Stop
     Stop { refusal, place }
 }
 
-// A token where another is wanted: 3 at the end, 1 at a foreign byte, 2 otherwise.
+// A token where another is wanted: 3 at the end, 1 at a foreign byte, 2 otherwise. Three arms with one answer: the edit
+// four_for_a_bracket turns a bracket's alone.
 #[tactic(auto, unfolding(crate::specs::Turns::misplaced_as))]
 fn misplaced(token: Token, place: usize) -> Stop
     ensures { result ≡ record { refusal = misplaced_as token; place = place } }

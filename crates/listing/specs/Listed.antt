@@ -10,8 +10,9 @@ use Rattle.rules.specs.Basics.{pick, zeros, most_jobs, most_bytes}
 use Rattle.rules.specs.declared.OrderRead.{OrderRead}
 use Rattle.rules.specs.declared.Planned.{Planned}
 use Rattle.rules.specs.declared.Refusal.{Refusal}
-use Rattle.rules.specs.declared.Refusal.TheVariants.{ForeignByte, NotAllowed, Unclosed, NoNumber, AboveLimit, TooDeep, TooManyJobs, NoJob, NoPlan, ShortBuffer, LongFile, BadBoards, BadLists, OutOfRange, BadTrailer}
+use Rattle.rules.specs.declared.Refusal.TheVariants.{NoPlan, ShortBuffer, LongFile, BadBoards, BadLists, OutOfRange}
 use Rattle.refusals.specs.declared.Fault.{Fault}
+use Rattle.refusals.specs.Numbers.{number_above}
 use Rattle.grammar.specs.declared.Order.{Order}
 use Rattle.grammar.specs.Turns.{said_of}
 use Rattle.planner.specs.Said.{planned_of}
@@ -178,24 +179,6 @@ order_read a h = pick_yes (eqb a.said.refusal 0) _ _ (eq-eqb a.said.refusal 0 h)
 
 pub rows_said : (m : ℕ) (works dues table : List ℕ) (count : ℕ) (later : List ℕ) → planned_of (Ok count) ≡ (plan_answer m works dues table).said → later ≡ (plan_answer m works dues table).table → 4 * count ≤ length later
 rows_said m works dues table count later p q = rw (ap (λ (x : Planned). x.rows) p, q) (rows_within m works dues table)
-
-number_above : (r : Refusal) → number_of r ≡ 0 → ⊥
-unfolding number_of
-number_above ForeignByte e = omega arith
-number_above NotAllowed e = omega arith
-number_above Unclosed e = omega arith
-number_above NoNumber e = omega arith
-number_above AboveLimit e = omega arith
-number_above TooDeep e = omega arith
-number_above TooManyJobs e = omega arith
-number_above NoJob e = omega arith
-number_above NoPlan e = omega arith
-number_above ShortBuffer e = omega arith
-number_above LongFile e = omega arith
-number_above BadBoards e = omega arith
-number_above BadLists e = omega arith
-number_above OutOfRange e = omega arith
-number_above BadTrailer e = omega arith
 
 abbrev pub day : ℕ → List ℕ → List ℕ → List ℕ
 day boards works dues = plan_lines boards works dues (plan_answer boards works dues (zeros (8 * length works)))

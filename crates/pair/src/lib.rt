@@ -1,8 +1,8 @@
 // The item reader and the group reader that call each other: 01, "a group holds items, and an item may be a group". The
 // levels left fall from call to call, so the depth is bounded whatever the file. They meet the contract of the reader that
-// ships, from the same definition, and are never linked into what ships: no compiled function there calls itself. The idea
-// of the proof: each function takes a state that holds a reading, and leaves it at a later place, with what is wanted there,
-// or says how the reading is refused.
+// ships, from the same definition, and are never linked into what ships: no compiled function there calls itself.
+// The idea of the proof: each function takes a state that holds a reading, and leaves it at a later place, with what is
+// wanted there, or says how the reading is refused.
 #![tactic(auto)]
 
 ghost use Rattle.std.specs.Prelude.{◌≡◌, ◌+◌};

@@ -1,6 +1,6 @@
-// The order reader: any bytes and two lent buffers, and always an answer, accepted or refused. The idea of the proof: the
-// state holds a reading of the definition, and one step is one of its steps. So what is still to be read from the place on
-// stays what is to be read from the start.
+// The order reader: any bytes and two lent buffers, and always an answer, accepted or refused.
+// The idea of the proof: the state holds a reading of the definition, and one step is one of its steps. So what is still to
+// be read from the place on stays what is to be read from the start.
 #![tactic(auto)]
 
 ghost use Rattle.std.specs.Prelude.{◌≡◌};
@@ -63,6 +63,7 @@ impl Way for InTurn {
 }
 
 // 01, Reader: "Order: 10 (either of the two buffers, work and due, holds under 1,000 numbers), 11, then token by token".
+// The three clauses stand word for word at each reader below and at what C calls: a whole answer is stated where it is given.
 pub fn read_by<W: Way>(file: &[u8], work: &mut [u32], due: &mut [u32]) -> Result<Order, Fault>
     ensures said { said_of result ≡ (read_answer file.now work.old due.old).said }
     ensures works { work.new ≡ (read_answer file.now work.old due.old).work }

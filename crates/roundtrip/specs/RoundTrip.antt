@@ -8,8 +8,8 @@ use Rattle.laws.specs.Rows.{length_rows_of}
 use Rattle.laws.specs.Tests.{pick_no, or_no_left, or_no_right}
 use Rattle.rules.specs.Basics.{All, pick}
 use Rattle.rules.specs.declared.Refusal.{Refusal}
-use Rattle.rules.specs.declared.Refusal.TheVariants.{ForeignByte, NotAllowed, Unclosed, NoNumber, AboveLimit, TooDeep, TooManyJobs, NoJob, NoPlan, ShortBuffer, LongFile, BadBoards, BadLists, OutOfRange, BadTrailer}
-use Rattle.rules.specs.Refusals.{number_of}
+use Rattle.rules.specs.declared.Refusal.TheVariants.{ShortBuffer, LongFile, BadLists, OutOfRange}
+use Rattle.refusals.specs.Numbers.{number_above}
 use Rattle.rules.specs.Plans.{Row, rows_of}
 use Rattle.rules.specs.PlanFiles.{bytes_of, value_of, row_bytes, rows_bytes, decode_row, decode_rows, trailer_bytes, trailer_offset, trailer_count, trailer_fits, part_answer, part_of, file_length, first_wide, WriteAnswer, refused_write, written, write_answer}
 use Rattle.planfile.specs.Stores.{length_bytes_of}
@@ -199,24 +199,6 @@ written_again s a h e =
 
 -- ---- the same of the writer's answer
 
-no_number : (r : Refusal) → number_of r ≡ 0 → ⊥
-unfolding number_of
-no_number ForeignByte e = omega arith
-no_number NotAllowed e = omega arith
-no_number Unclosed e = omega arith
-no_number NoNumber e = omega arith
-no_number AboveLimit e = omega arith
-no_number TooDeep e = omega arith
-no_number TooManyJobs e = omega arith
-no_number NoJob e = omega arith
-no_number NoPlan e = omega arith
-no_number ShortBuffer e = omega arith
-no_number LongFile e = omega arith
-no_number BadBoards e = omega arith
-no_number BadLists e = omega arith
-no_number OutOfRange e = omega arith
-no_number BadTrailer e = omega arith
-
 -- what an answer that is not refused was asked
 pub record Asked (t : List ℕ) (count : ℕ) (b : List ℕ) (p : ℕ) : Type 0 where
   pub rows : 4 * count ≤ length t
@@ -232,7 +214,7 @@ refusal a = a.said.refusal
 -- one test of the answer: where it holds the answer is refused, so it does not hold
 passed : (test : Bool) (r : Refusal) (place : ℕ) (b : List ℕ) (more : WriteAnswer) → (pick test (refused_write r place b) more).said.refusal ≡ 0 → test ≡ false
 unfolding refused_write
-passed true r place b more e = absurd (no_number r e)
+passed true r place b more e = absurd (number_above r e)
 passed false r place b more e = refl
 
 pub asked : (t : List ℕ) (count : ℕ) (b : List ℕ) (p : ℕ) → (write_answer t count b p).said.refusal ≡ 0 → Asked t count b p

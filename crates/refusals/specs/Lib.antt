@@ -1,0 +1,2 @@
+-- A law of the refusals' numbers.
+pub mod Numbers
