@@ -1,11 +1,11 @@
 -- Laws of the plan-file reader's answer: one for each way out.
 use Rattle.std.specs.Prelude.{◌≡◌, refl, Result, Ok, Err, Bool, true, false, ◌&&◌, List, ℕ, ◌+◌, ◌*◌, ◌-◌, ◌≤◌, ◌<◌, length, take, drop, leb, ltb, eqb}
 use Rattle.std.specs.Result.{result_unwrap_or}
-use Rattle.std.proofs.Common.{sym, ap, ap₂, ◌∙◌, inl, inr, arith, length-take-le, length-drop, lt-ltb, le-ltb, le-leb, eq-eqb, ne_eqb, eqb-true}
+use Rattle.std.proofs.Common.{sym, ap, ap₂, ◌∙◌, inl, inr, arith, length-take, length-take-le, length-drop, lt-ltb, le-ltb, le-leb, eq-eqb, ne_eqb, leb-true, eqb-true}
 use Rattle.std.proofs.Math.Decide.{dec_le}
-use Rattle.std.proofs.Math.Nat.{add-sub_cancel_left}
+use Rattle.std.proofs.Math.Nat.{add-sub_cancel_left, min-le_left}
 use Rattle.std.proofs.lemmas.Bool.{lt-leb}
-use Rattle.laws.specs.Tests.{pick_yes, pick_no, decided, and_yes, and_right, and_no_left, and_no_right}
+use Rattle.laws.specs.Tests.{pick_yes, pick_no, decided, and_yes, and_left, and_right, and_no_left, and_no_right}
 use Rattle.std.specs.declared.ops.Range.{Range}
 use Rattle.rules.specs.declared.Refusal.{Refusal}
 use Rattle.rules.specs.declared.Refusal.TheVariants.{LongFile, BadTrailer}
@@ -98,6 +98,27 @@ pub part_lent : (s : List ℕ) (p : Result (Range ℕ) Refusal) (r : Range ℕ) 
 unfolding part_of refused_part
 part_lent s (Ok rows) r e q = rw (e, ← q) refl
 part_lent s (Err refusal) r e q = rw (e, ← q) refl
+
+-- 2,000 rows at the most
+pub fit_count : (s : List ℕ) → trailer_fits s ≡ true → trailer_count s ≤ 2000
+unfolding trailer_fits
+fit_count s e =
+    leb-true (trailer_count s) 2000
+    (and_left (leb (trailer_count s) 2000) (sums s) (and_right (leb 8 (length s)) (leb (trailer_count s) 2000 && sums s) e))
+
+pub most_length : (s : List ℕ) → (part_answer s).length ≤ 24000
+most_length s =
+    elim (dec_le (length s) 65536) [
+      | no h ↦ omega (arith, ap (λ (r : RowPart). r.length) (part_long s (omega arith)), empty LongFile)
+      | yes h ↦ elim (decided (trailer_fits s)) [
+        | inl e ↦ omega (arith, ap (λ (r : RowPart). r.length) (part_fits s h e), fit_count s e)
+        | inr e ↦ omega (arith, ap (λ (r : RowPart). r.length) (part_unfit s h e), empty BadTrailer)
+      ]
+    ]
+
+pub part_length : (s : List ℕ) → length (part_of s) ≤ 24000
+unfolding part_of
+part_length s = omega (arith, length-take (part_answer s).length (drop (part_answer s).offset s), most_length s, min-le_left (part_answer s).length (length (drop (part_answer s).offset s)))
 
 -- and it is whole rows
 whole_answer : (s : List ℕ) → (n : ℕ) × ((part_answer s).length ≡ 12 * n)
