@@ -178,6 +178,10 @@ rows_more {p} {q} {r} {table} {all} {rest} {count} {left} {n} row room four e ne
       put = at_most _ (omega (arith, f.few)) (puts_then (omega (arith, f.few)) f.put put);
     }
 
+-- the row that was put is that of the turn
+pub turn_put : {q r : Page} {given row : List ℕ} → given ≡ row → Puts q r (row_line (first_row given)) 44 → Puts q r (row_line (first_row row)) 44
+turn_put e put = rw (← e) put
+
 -- no whole row is left
 pub rows_done : {p q : Page} {table rest : List ℕ} {count left : ℕ} → (0 < left → length rest < 4) → RowsPut p q table count rest left →
     Puts p q (row_lines (rows_of count table)) (44 * count)

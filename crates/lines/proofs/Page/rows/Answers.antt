@@ -1,6 +1,7 @@
 -- The lines put and those of the rows that follow are together those of the table.
 use Rattle.std.proofs.Common.{arith, rules, ◌∙◌}
-use Rattle.lines.specs.Fields.{rows_none, rows_room, rows_more, rows_done}
+use Rattle.std.proofs.Math.Seq.{take-length}
+use Rattle.lines.specs.Fields.{rows_none, rows_room, rows_more, turn_put, rows_done}
 use Rattle.lines.proofs.Page.rows.Goals as goal
 
 pub loop-row-init : goal.loop-row-init
@@ -14,7 +15,7 @@ loop-row-preserved c =
     let step = c.in-Some.ensures.steps in
     record {
       cut = step.0.0 ∙ c.loop-row.invariant.cut;
-      put = rows_more _ c.requires.room (step.0.1.1 ∙ c.loop-row.invariant.cut) step.0.1.0 step.1 c.loop-row.invariant.put c.row.ensures;
+      put = rows_more _ c.requires.room (step.0.1.1 ∙ c.loop-row.invariant.cut) step.0.1.0 step.1 c.loop-row.invariant.put (turn_put (search (rules, take-length)) c.row.ensures);
     }
 
 pub returns : goal.returns
