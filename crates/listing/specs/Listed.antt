@@ -250,11 +250,11 @@ file_read file w d lines later order work due result lw ld e f g p =
     subst (λ (v : List ℕ). Lists v lines result later) same p
 
 -- the refusal's line is put where nothing was
-pub listed_fault : (file lines lent later : List ℕ) (fault : Fault) (n r : ℕ) → room ≤ length lines → Lists (listing file) lines (Err fault) lent → n ≡ number_of fault.refusal → Put lent 0 (refused_line n fault.place) later r → (r ≡ listed_length file lines) × (later ≡ listed_lines file lines)
-listed_fault file lines lent later fault n r h (same, kept) e p =
+pub listed_fault : (file lines lent later : List ℕ) (fault : Fault) (n place r : ℕ) → room ≤ length lines → Lists (listing file) lines (Err fault) lent → n ≡ number_of fault.refusal → place ≡ fault.place → Put lent 0 (refused_line n place) later r → (r ≡ listed_length file lines) × (later ≡ listed_lines file lines)
+listed_fault file lines lent later fault n place r h (same, kept) e f p =
     listed file lines later r h
-    (subst (λ (v : List ℕ). Put lines 0 v later r) (ap (λ (k : ℕ). refused_line k fault.place) e ∙ sym same)
-    (subst (λ (v : List ℕ). Put v 0 (refused_line n fault.place) later r) kept p))
+    (subst (λ (v : List ℕ). Put lines 0 v later r) (ap₂ refused_line e f ∙ sym same)
+    (subst (λ (v : List ℕ). Put v 0 (refused_line n place) later r) kept p))
 
 -- what was put ends within the buffer, since the buffer is as long as it was
 pub put_within : (lines later v : List ℕ) (r : ℕ) → length later ≡ length lines → Put lines 0 v later r → r ≤ length lines

@@ -1,5 +1,5 @@
 -- A buffer that is too short stays; else the lines were put, or the line of the refusal is put now.
-use Rattle.std.proofs.Common.{arith}
+use Rattle.std.proofs.Common.{arith, rules, ◌∙◌}
 use Rattle.listing.specs.Listed.{short_left, listed, listed_fault, put_within}
 use Rattle.listing.proofs.list.Goals as goal
 
@@ -15,8 +15,8 @@ returns-in-Ok c =
 
 pub returns-in-Err : goal.returns-in-Err
 returns-in-Err c =
-    let w = listed_fault c.args.file.now c.args.lines.now c.list_order.new.lines c.put_refusal.new.b c.in-Err.fault c.from.result
-    c.put_refusal.result c.if-lines-lt90000.false c.in-Err.ensures c.from.ensures c.put_refusal.ensures in
+    let w = listed_fault c.args.file.now c.args.lines.now c.list_order.new.lines c.put_refusal.new.b c.in-Err.fault _ _
+    c.put_refusal.result c.if-lines-lt90000.false c.in-Err.ensures (search (rules, ◌∙◌)) (search (rules, ◌∙◌)) c.put_refusal.ensures in
     record {
       said = w.0;
       later = w.1;
