@@ -389,6 +389,12 @@ class Source:
         done = set()
         for name in self.roots:
             self.follow(Chosen(name, (), ()), (), done)
+        # One that nothing calls is read as it stands, its types and bounds for themselves. What it calls through such a bound
+        # is nothing yet: who calls it with an impl is read too, and then calls that impl's method through it.
+        for each in sorted(functions):
+            if each.name not in {chosen.name for chosen in done}:
+                types, given = (tuple((form, i) for i in range(n)) for form, n in (("Param", each.types), ("Given", each.bounds)))
+                self.follow(Chosen(each.name, types, given), (), done)
 
     def function(self, name):
         """The function of this name; None for one of C or of the kit that is not read."""
@@ -404,7 +410,8 @@ class Source:
         """What a function may call, with their types and impls; and those of C or of the kit that are not read."""
         if chosen not in self.called:
             read, unread = set(), set()
-            todo = [self.resolved(call, chosen) for call in self.functions[chosen.name].calls]
+            resolved = (self.resolved(call, chosen) for call in self.functions[chosen.name].calls)
+            todo = [each for each in resolved if each]
             while todo:
                 here = todo.pop()
                 if self.function(here.name) or self.is_ours(here.name):
@@ -416,16 +423,20 @@ class Source:
         return self.called[chosen]
 
     def resolved(self, call, chosen):
-        """The target of a call, where its function is called with these types and impls."""
+        """The target of a call, where its function is called with these types and impls; None through a bound that is open."""
         types = put_in(call.types, chosen.types, chosen.given)
         given = put_in(call.given, chosen.types, chosen.given)
         if isinstance(call.target, str):
             return Chosen(call.target, types, given)
         impl = put_in(call.target[0], chosen.types, chosen.given)
+        if impl[0] == "Given":
+            return None
         return Chosen(impl[1][call.target[1]], impl[2] + types, impl[3] + given)
 
     def methods(self, impl):
         """What a function that is not read may call of an impl."""
+        if impl[0] == "Given":
+            return
         for name in impl[1]:
             function = self.function(name)
             if function and (function.types, function.bounds) != (len(impl[2]), len(impl[3])):
