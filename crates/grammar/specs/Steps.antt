@@ -272,6 +272,7 @@ lent_on s s' s'' a b = record {
   same_file = b.same_file ∙ a.same_file;
   same_work = b.same_work ∙ a.same_work;
   same_due = b.same_due ∙ a.same_due;
+  same_least = b.same_least ∙ a.same_least;
   length_work = b.length_work ∙ a.length_work;
   length_due = b.length_due ∙ a.length_due;
   length_least = b.length_least ∙ a.length_least;

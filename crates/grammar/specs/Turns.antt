@@ -147,6 +147,7 @@ pub record Lent (s s' : State) : Type 0 where
   pub same_file : s'.file.now ≡ s.file.now
   pub same_work : s'.work.ghost_name ≡ s.work.ghost_name
   pub same_due : s'.due.ghost_name ≡ s.due.ghost_name
+  pub same_least : s'.least.ghost_name ≡ s.least.ghost_name
   pub length_work : length s'.work.now ≡ length s.work.now
   pub length_due : length s'.due.now ≡ length s.due.now
   pub length_least : length s'.least.now ≡ length s.least.now

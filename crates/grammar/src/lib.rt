@@ -209,6 +209,7 @@ impl<'f, 'w, 'd, 'l> State<'f, 'w, 'd, 'l> {
     ) -> State<'f, 'w, 'd, 'l>
         ensures work { result.work.ghost_name ≡ work.entry.ghost_name }
         ensures due { result.due.ghost_name ≡ due.entry.ghost_name }
+        ensures least { result.least.ghost_name ≡ least.entry.ghost_name }
         ensures starts { Starts result file.now work.old due.old least.old }
     {
         State {
