@@ -48,7 +48,7 @@ pub trait Way {
 }
 
 // One loop over the tokens.
-pub struct InTurn;
+struct InTurn;
 
 impl Way for InTurn {
     fn order(file: &[u8], work: &mut [u32], due: &mut [u32]) -> Result<Order, Fault> {
