@@ -17,7 +17,7 @@ use Rattle.laws.specs.Tests.{decided}
 use Rattle.lexer.specs.Scan.{tokens_at, is_last, behind, NextToken}
 use Rattle.lexer.specs.declared.Seen.{Seen}
 use Rattle.grammar.specs.declared.Stop.{Stop}
-use Rattle.grammar.specs.declared.State.{State}
+use Rattle.grammar.specs.declared.Cursor.{Cursor}
 use Rattle.grammar.specs.declared.Turn.{Turn}
 use Rattle.grammar.specs.declared.Turn.TheVariants.{Want, Take, Leave, Done}
 use Rattle.grammar.specs.Turns.{acted, turned, meant, Goes, deepest, fullest, half, Sound, Decides, Long, Lent, Acts, Changes, Untouched, Bounded, Finished, Stands}
@@ -253,7 +253,7 @@ goes_turned r Leave g = refl
 goes_turned r Done g = absurd g
 
 -- the start
-pub stands_start : (s : State) → s.at ≡ 0 → s.wanted ≡ OrderOpen → s.boards ≡ 0 → s.level ≡ 0 → s.jobs ≡ 0 → Stands s
+pub stands_start : (s : Cursor) → s.at ≡ 0 → s.state.wanted ≡ OrderOpen → s.state.boards ≡ 0 → s.state.level ≡ 0 → s.state.jobs ≡ 0 → Stands s
 unfolding order_of tokens tokens_at start deepest fullest half
 stands_start s at wanted boards level jobs = record {
   reading = start;
@@ -264,10 +264,10 @@ stands_start s at wanted boards level jobs = record {
 }
 
 -- a list as long as before is long enough
-pub long_lent : (s s' : State) → Long s → Lent s s' → Long s'
+pub long_lent : (s s' : Cursor) → Long s → Lent s s' → Long s'
 long_lent s s' l t = record { long_work = omega (arith, l.long_work, t.length_work); long_due = omega (arith, l.long_due, t.length_due); long_least = omega (arith, l.long_least, t.length_least) }
 
-pub lent_on : (s s' s'' : State) → Lent s s' → Lent s' s'' → Lent s s''
+pub lent_on : (s s' s'' : Cursor) → Lent s s' → Lent s' s'' → Lent s s''
 lent_on s s' s'' a b = record {
   same_file = b.same_file ∙ a.same_file;
   same_work = b.same_work ∙ a.same_work;
@@ -278,17 +278,17 @@ lent_on s s' s'' a b = record {
   length_least = b.length_least ∙ a.length_least;
 }
 
-pub changes_acts : (s : State) (t : Turn) (s' : State) → Changes s t s' → Untouched s s' → Acts s t s'
+pub changes_acts : (s : Cursor) (t : Turn) (s' : Cursor) → Changes s.state t s'.state → Untouched s s' → Acts s t s'
 changes_acts s t s' c u = λ r sound long h. rw (u.as_work, u.as_due, u.as_least) (c r s.work.now s.due.now s.least.now h)
 
-module _ (s : State) (c : Stands s) where
-  pub stands_bounded : Bounded s
+module _ (s : Cursor) (c : Stands s) where
+  pub stands_bounded : Bounded s.state
   stands_bounded =
       let d : deepest c.reading.wanted ≤ 32 = deepest_most c.reading.wanted in
       let f : fullest c.reading.wanted ≤ 1000 = fullest_most c.reading.wanted in
       record { few_levels = omega (arith, c.sound.levels, c.holds.as_level); few_jobs = omega (arith, c.sound.jobs, c.sound.pairs, c.holds.as_jobs) }
 
-  module _ (seen : Seen) (n : NextToken s.file.now s.at seen) (decided : Result Turn Stop) (d : Decides s seen.token seen.place decided) where
+  module _ (seen : Seen) (n : NextToken s.file.now s.at seen) (decided : Result Turn Stop) (d : Decides s.state seen.token seen.place decided) where
     -- the definition's step at the token seen
     step_is : step_at c.reading.wanted c.reading seen.token seen.place ≡ meant c.reading decided
     step_is = d c.reading c.sound c.holds.as_wanted c.holds.as_level c.holds.as_jobs
@@ -312,15 +312,15 @@ module _ (s : State) (c : Stands s) where
     stands_stop halt work' due' e =
         (sym (outcome_is (stop halt.refusal halt.place) (ap (meant c.reading) e)), omega (arith, stop_place halt e, (n.inside c.inside).0))
 
-    pub stands_done : decided ≡ Ok Done → Finished s.file.now (Ok (record { boards = s.boards; jobs = s.jobs })) s.work.now s.due.now
+    pub stands_done : decided ≡ Ok Done → Finished s.file.now (Ok (record { boards = s.state.boards; jobs = s.state.jobs })) s.work.now s.due.now
     unfolding turned meant after
     stands_done e =
         let w : half c.reading.wanted ≡ 0 = follows_is done (ap (meant c.reading) e) in
-        let m : length c.reading.works ≡ s.jobs = omega (arith, w, c.sound.pairs, c.holds.as_jobs) in (
+        let m : length c.reading.works ≡ s.state.jobs = omega (arith, w, c.sound.pairs, c.holds.as_jobs) in (
           sym (outcome_is done (ap (meant c.reading) e))
               ∙ ap (λ (b : ℕ). accepted b c.reading.works c.reading.dues) c.holds.as_boards
-              ∙ ap (λ (x : List ℕ). accepted s.boards x c.reading.dues) (sym c.holds.front_works ∙ ap (λ (k : ℕ). take k s.work.now) m)
-              ∙ ap (λ (x : List ℕ). accepted s.boards (take s.jobs s.work.now) x) (sym c.holds.front_dues ∙ ap (λ (k : ℕ). take k s.due.now) c.holds.as_jobs),
+              ∙ ap (λ (x : List ℕ). accepted s.state.boards x c.reading.dues) (sym c.holds.front_works ∙ ap (λ (k : ℕ). take k s.work.now) m)
+              ∙ ap (λ (x : List ℕ). accepted s.state.boards (take s.state.jobs s.work.now) x) (sym c.holds.front_dues ∙ ap (λ (k : ℕ). take k s.due.now) c.holds.as_jobs),
           stands_bounded.few_jobs,
         )
 
@@ -335,7 +335,7 @@ module _ (s : State) (c : Stands s) where
       pub moves_on : s.at < seen.next
       moves_on = n.moves (goes_on c.reading seen.token seen.place (acted c.reading act) goes)
 
-      pub stands_on : (s' s'' : State) → Long s → Acts s act s' → Lent s s' → s'' ≡ record s' { at = seen.next } → Stands s''
+      pub stands_on : (s' s'' : Cursor) → Long s → Acts s act s' → Lent s s' → s'' ≡ record s' { at = seen.next } → Stands s''
       unfolding after
       stands_on s' s'' long a lent q = subst Stands (sym q) (record {
         reading = acted c.reading act;

@@ -13,6 +13,7 @@ use Rattle.rules.specs.Basics.{pick, most_jobs, most_levels}
 use Rattle.rules.specs.Orders.{Reading, Step, go, stop, done, Outcome, refused, accepted, least_due, step_at, reads, order_of, ReadAnswer}
 use Rattle.lexer.specs.Scan.{tokens_at}
 use Rattle.grammar.specs.declared.State.{State}
+use Rattle.grammar.specs.declared.Cursor.{Cursor}
 use Rattle.grammar.specs.declared.Turn.{Turn}
 use Rattle.grammar.specs.declared.Turn.TheVariants.{Want, Take, Leave, Done}
 use Rattle.grammar.specs.declared.Stop.{Stop}
@@ -85,8 +86,8 @@ pub record Shows (r : Reading) (wanted : Wanted) (boards level jobs : ℕ) (work
   pub front_dues : take (length r.dues) due ≡ r.dues
   pub held : Held r.groups least
 
-abbrev pub Holds : Reading → State → Type 0
-Holds r s = Shows r s.wanted s.boards s.level s.jobs s.work.now s.due.now s.least.now
+abbrev pub Holds : Reading → Cursor → Type 0
+Holds r s = Shows r s.state.wanted s.state.boards s.state.level s.state.jobs s.work.now s.due.now s.least.now
 
 -- The limits that a reading keeps: where a group's due is wanted there is room for a level, where a job's work is wanted
 -- for a job, and a work is read before its due.
@@ -137,13 +138,13 @@ abbrev pub Decides : State → Token → ℕ → Result Turn Stop → Type 0
 Decides s t p decided = (r : Reading) → Sound r → r.wanted ≡ s.wanted → length r.groups ≡ s.level → length r.dues ≡ s.jobs → step_at r.wanted r t p ≡ meant r decided
 
 -- the lists are long enough
-pub record Long (s : State) : Type 0 where
+pub record Long (s : Cursor) : Type 0 where
   pub long_work : most_jobs ≤ length s.work.now
   pub long_due : most_jobs ≤ length s.due.now
   pub long_least : most_levels ≤ length s.least.now
 
 -- the same file and the same lists, each as long as before
-pub record Lent (s s' : State) : Type 0 where
+pub record Lent (s s' : Cursor) : Type 0 where
   pub same_file : s'.file.now ≡ s.file.now
   pub same_work : s'.work.ghost_name ≡ s.work.ghost_name
   pub same_due : s'.due.ghost_name ≡ s.due.ghost_name
@@ -152,17 +153,17 @@ pub record Lent (s s' : State) : Type 0 where
   pub length_due : length s'.due.now ≡ length s.due.now
   pub length_least : length s'.least.now ≡ length s.least.now
 
--- The state is changed as the turn changes the reading.
-abbrev pub Acts : State → Turn → State → Type 0
+-- State and lists are changed as the turn changes the reading.
+abbrev pub Acts : Cursor → Turn → Cursor → Type 0
 Acts s t s' = (r : Reading) → Sound r → Long s → Holds r s → Holds (acted r t) s'
 
--- The counts alone are changed, as the turn changes a reading, whatever the lists hold.
+-- The state alone is, whatever the lists hold.
 abbrev pub Changes : State → Turn → State → Type 0
 Changes s t s' =
     (r : Reading) (work due least : List ℕ) → Shows r s.wanted s.boards s.level s.jobs work due least → Shows (acted r t) s'.wanted s'.boards s'.level s'.jobs work due least
 
 -- the place and what the lists hold stay as they were
-pub record Untouched (s s' : State) : Type 0 where
+pub record Untouched (s s' : Cursor) : Type 0 where
   pub same_at : s'.at ≡ s.at
   pub as_work : s'.work.now ≡ s.work.now
   pub as_due : s'.due.now ≡ s.due.now
@@ -178,9 +179,9 @@ pub record Bounded (s : State) : Type 0 where
   pub few_levels : s.level ≤ most_levels
   pub few_jobs : s.jobs ≤ most_jobs
 
--- Where the reader stands before the token at `at`: the state holds a reading, and what is still to be read from it is what is
+-- Where the reader stands before the token at `at`: the cursor holds a reading, and what is still to be read from it is what is
 -- to be read from the start.
-pub record Stands (s : State) : Type 0 where
+pub record Stands (s : Cursor) : Type 0 where
   pub reading : Reading
   pub sound : Sound reading
   pub holds : Holds reading s
@@ -188,13 +189,13 @@ pub record Stands (s : State) : Type 0 where
   pub inside : s.at ≤ length s.file.now
 
 -- at the start of a file
-pub record Starts (s : State) (file work due least : List ℕ) : Type 0 where
+pub record Starts (s : Cursor) (file work due least : List ℕ) : Type 0 where
   pub stands : Stands s
   pub place : s.at ≡ 0
-  pub wanted : s.wanted ≡ OrderOpen
-  pub boards : s.boards ≡ 0
-  pub jobs : s.jobs ≡ 0
-  pub level : s.level ≡ 0
+  pub wanted : s.state.wanted ≡ OrderOpen
+  pub boards : s.state.boards ≡ 0
+  pub jobs : s.state.jobs ≡ 0
+  pub level : s.state.level ≡ 0
   pub file_is : s.file.now ≡ file
   pub work_is : s.work.now ≡ work
   pub due_is : s.due.now ≡ due

@@ -1,8 +1,8 @@
 // One token's turn of the order grammar, and what is left in the buffers: what the reader that ships and the pair of readers
 // share. The works and dues read so far stand at the front of the buffers, and for each group round the place the least due
 // of it and of the groups round it stands in a list of 32.
-// The idea of the proof: the state stands for a `Reading` of the definition; a turn means one of the definition's steps, and
-// acting on it changes the state as it changes the reading.
+// The idea of the proof: the cursor stands for a `Reading` of the definition; a turn means one of the definition's steps, and
+// acting on it changes the cursor as it changes the reading.
 #![tactic(auto)]
 
 ghost use Rattle.std.specs.Prelude.{◌≡◌, Result, Ok, Err, List, ℕ, ◌≤◌, eqb, ltb, length, get_or, set};
@@ -64,17 +64,23 @@ pub struct Stop {
     pub place: usize,
 }
 
-// Where the reader stands in the file, and what it holds. No invariant: between a turn and the move of `at` behind its token
-// it holds no reading of the file. Each loan has a lifetime of its own, so that a proof knows what each list ends as. The
-// list of the least dues is lent too: as an array in here it made the reader a quarter slower.
-#[derive(Drop)]
-pub struct State<'f, 'w, 'd, 'l> {
-    pub file: &'f [u8],
-    pub at: usize,
+// Where the reader stands: what is wanted next, and the counts.
+#[derive(Clone, Copy)]
+pub struct State {
     pub wanted: Wanted,
     pub boards: u32,
     pub level: usize,
     pub jobs: usize,
+}
+
+// The place in the file, the state there, and the lists that are lent. No invariant: between a turn and the move of `at`
+// behind its token it holds no reading of the file. Each loan has a lifetime of its own, so that a proof knows what each list
+// ends as. The list of the least dues is lent too: as an array in here it made the reader a quarter slower.
+#[derive(Drop)]
+pub struct Cursor<'f, 'w, 'd, 'l> {
+    pub file: &'f [u8],
+    pub at: usize,
+    pub state: State,
     pub work: &'w mut [u32],
     pub due: &'d mut [u32],
     pub least: &'l mut [u32],
@@ -198,7 +204,7 @@ fn order_ends(jobs: usize, place: usize) -> Result<Turn, Stop>
     Ok(Turn::Done)
 }
 
-impl<'f, 'w, 'd, 'l> State<'f, 'w, 'd, 'l> {
+impl<'f, 'w, 'd, 'l> Cursor<'f, 'w, 'd, 'l> {
     // At the file's first byte.
     #[tactic(auto, using(crate::specs::Steps::stands_start))]
     pub fn start(
@@ -206,19 +212,22 @@ impl<'f, 'w, 'd, 'l> State<'f, 'w, 'd, 'l> {
         work: &'w mut [u32],
         due: &'d mut [u32],
         least: &'l mut [u32],
-    ) -> State<'f, 'w, 'd, 'l>
+    ) -> Cursor<'f, 'w, 'd, 'l>
         ensures work { result.work.ghost_name ≡ work.entry.ghost_name }
         ensures due { result.due.ghost_name ≡ due.entry.ghost_name }
         ensures least { result.least.ghost_name ≡ least.entry.ghost_name }
         ensures starts { Starts result file.now work.old due.old least.old }
     {
-        State {
-            file,
-            at: 0,
+        let state = State {
             wanted: Wanted::OrderOpen,
             boards: 0,
             level: 0,
             jobs: 0,
+        };
+        Cursor {
+            file,
+            at: 0,
+            state,
             work,
             due,
             least,
@@ -228,12 +237,12 @@ impl<'f, 'w, 'd, 'l> State<'f, 'w, 'd, 'l> {
     // 01: "the least of its own and those of all groups round it"; the innermost group's entry is the least of all of them.
     #[tactic(auto, using(crate::specs::Laws::capped_none, crate::specs::Laws::capped_round))]
     fn least_due(&self, due: u32) -> u32
-        ensures { result ≡ capped due self.now.level self.now.least.now }
+        ensures { result ≡ capped due self.now.state.level self.now.least.now }
     {
-        if self.level == 0 {
+        if self.state.level == 0 {
             return due;
         }
-        let round = self.least.get(self.level - 1).copied().unwrap_or(0);
+        let round = self.least.get(self.state.level - 1).copied().unwrap_or(0);
         due.min(round)
     }
 
@@ -241,24 +250,24 @@ impl<'f, 'w, 'd, 'l> State<'f, 'w, 'd, 'l> {
     #[tactic(auto, unfolding(crate::specs::Turns::meant))]
     fn item_wanted(&self, token: Token, place: usize) -> Result<Turn, Stop>
         ensures { (r : Reading) → meant r result ≡ word token place (stop Refusal.NotAllowed place)
-            (pick (ltb self.now.level most_levels) (want r Wanted.GroupDue) (stop Refusal.TooDeep place))
-            (pick (ltb self.now.jobs most_jobs) (want r Wanted.JobWork) (stop Refusal.TooManyJobs place)) }
+            (pick (ltb self.now.state.level most_levels) (want r Wanted.GroupDue) (stop Refusal.TooDeep place))
+            (pick (ltb self.now.state.jobs most_jobs) (want r Wanted.JobWork) (stop Refusal.TooManyJobs place)) }
     {
         let no = stop_at(Refusal::NotAllowed, place);
         let deep = stop_at(Refusal::TooDeep, place);
         let many = stop_at(Refusal::TooManyJobs, place);
-        let group = begins(self.level, MOST_LEVELS, Wanted::GroupDue, deep);
-        let job = begins(self.jobs, MOST_JOBS, Wanted::JobWork, many);
+        let group = begins(self.state.level, MOST_LEVELS, Wanted::GroupDue, deep);
+        let job = begins(self.state.jobs, MOST_JOBS, Wanted::JobWork, many);
         word_wanted(token, place, Err(no), group, job)
     }
 
     // The grammar, a line for each thing that it can want.
     #[tactic(auto, using(crate::specs::Laws::leave_left, crate::specs::Laws::empty_is, crate::specs::Laws::whole_jobs), unfolding(rules::specs::Orders::step_at, rules::specs::Orders::want, crate::specs::Turns::meant, crate::specs::Turns::turned, crate::specs::Turns::acted, crate::specs::Turns::taken, crate::specs::Turns::half))]
     pub fn decide(&self, token: Token, place: usize) -> Result<Turn, Stop>
-        ensures { Decides self.now token place result }
+        ensures { Decides self.now.state token place result }
     {
         let no = Err(stop_at(Refusal::NotAllowed, place));
-        match self.wanted {
+        match self.state.wanted {
             Wanted::OrderOpen => bracket_wanted(
                 token,
                 place,
@@ -285,59 +294,59 @@ impl<'f, 'w, 'd, 'l> State<'f, 'w, 'd, 'l> {
                 no,
                 Ok(Turn::Want(Wanted::ItemOrClose)),
             ),
-            Wanted::Finish => end_wanted(token, place, order_ends(self.jobs, place)),
+            Wanted::Finish => end_wanted(token, place, order_ends(self.state.jobs, place)),
         }
     }
 
     pub fn want_next(&mut self, wanted: Wanted)
         ensures lent { Lent self.old self.new }
-        ensures changes { Changes self.old (Turn.Want wanted) self.new }
+        ensures changes { Changes self.old.state (Turn.Want wanted) self.new.state }
         ensures stays { Untouched self.old self.new }
     {
-        self.wanted = wanted;
+        self.state.wanted = wanted;
     }
 
     // `)` leaves the innermost group, or the order.
     pub fn leave(&mut self)
         ensures lent { Lent self.old self.new }
-        ensures changes { Changes self.old Turn.Leave self.new }
+        ensures changes { Changes self.old.state Turn.Leave self.new.state }
         ensures stays { Untouched self.old self.new }
     {
-        if self.level == 0 {
-            self.wanted = Wanted::Finish;
+        if self.state.level == 0 {
+            self.state.wanted = Wanted::Finish;
             return;
         }
-        self.level -= 1;
-        self.wanted = Wanted::ItemOrClose;
+        self.state.level -= 1;
+        self.state.wanted = Wanted::ItemOrClose;
     }
 
     // A number, taken for what was wanted: the boards, a group's due, a job's work or a job's due.
     pub fn take_in(&mut self, n: u32)
-        requires { Bounded self.old }
+        requires { Bounded self.old.state }
         ensures lent { Lent self.old self.new }
         ensures acts { Acts self.old (Turn.Take n) self.new }
         ensures place { self.new.at ≡ self.old.at }
     {
-        match self.wanted {
+        match self.state.wanted {
             Wanted::Boards => {
-                self.boards = n;
-                self.wanted = Wanted::ItemOrClose;
+                self.state.boards = n;
+                self.state.wanted = Wanted::ItemOrClose;
             }
             Wanted::GroupDue => {
                 let round = self.least_due(n);
-                put(self.least, self.level, round);
-                self.level += 1;
-                self.wanted = Wanted::ItemOrClose;
+                put(self.least, self.state.level, round);
+                self.state.level += 1;
+                self.state.wanted = Wanted::ItemOrClose;
             }
             Wanted::JobWork => {
-                put(self.work, self.jobs, n);
-                self.wanted = Wanted::JobDue;
+                put(self.work, self.state.jobs, n);
+                self.state.wanted = Wanted::JobDue;
             }
             Wanted::JobDue => {
                 let own = self.least_due(n);
-                put(self.due, self.jobs, own);
-                self.jobs += 1;
-                self.wanted = Wanted::JobClose;
+                put(self.due, self.state.jobs, own);
+                self.state.jobs += 1;
+                self.state.wanted = Wanted::JobClose;
             }
             _ => {}
         }
@@ -345,12 +354,12 @@ impl<'f, 'w, 'd, 'l> State<'f, 'w, 'd, 'l> {
 
     // What was read, once it is read whole.
     pub fn order(&self) -> Order
-        requires { Bounded self.now }
-        ensures { result ≡ record { boards = self.now.boards; jobs = self.now.jobs } }
+        requires { Bounded self.now.state }
+        ensures { result ≡ record { boards = self.now.state.boards; jobs = self.now.state.jobs } }
     {
         Order {
-            boards: self.boards,
-            jobs: self.jobs as u32,
+            boards: self.state.boards,
+            jobs: self.state.jobs as u32,
         }
     }
 }

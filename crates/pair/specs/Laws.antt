@@ -3,7 +3,7 @@ use Rattle.std.specs.Prelude.{◌≡◌, refl, Option, Some, None, Ok, ◌⊎◌
 use Rattle.std.proofs.Common.{ap, subst, ◌∙◌, inl, inr, arith}
 use Rattle.rules.specs.declared.Wanted.{Wanted}
 use Rattle.rules.specs.declared.Wanted.TheVariants.{OrderOpen, OrderWord, Boards, ItemOrClose, ItemWord, GroupDue, JobWork, JobDue, JobClose, Finish}
-use Rattle.grammar.specs.declared.State.{State}
+use Rattle.grammar.specs.declared.Cursor.{Cursor}
 use Rattle.grammar.specs.declared.Order.{Order}
 use Rattle.reader.specs.Ways.{Closes, Moved, Onward, Steps}
 use Rattle.pair.specs.Moves.{togo}
@@ -74,8 +74,8 @@ pub group_left : (l k : ℕ) (w : Wanted) (outer : ℕ) → l ≡ outer + 1 → 
 group_left l k w outer e (inl z) = absurd (omega (arith, z.0))
 group_left l k w outer e (inr z) = (z.1, omega (arith, z.0))
 
-pub togo_less : (a b : State) (left : ℕ) → togo a.wanted ≡ left → 0 < left → left ≤ 3 → Moved a.wanted a.level b.wanted b.level → (togo b.wanted ≡ left - 1) × (b.level ≡ a.level)
-togo_less a b left e h k m = togo_step a.wanted b.wanted a.level b.level (left - 1) (e ∙ omega arith) (omega arith) m
+pub togo_less : (a b : Cursor) (left : ℕ) → togo a.state.wanted ≡ left → 0 < left → left ≤ 3 → Moved a.state.wanted a.state.level b.state.wanted b.state.level → (togo b.state.wanted ≡ left - 1) × (b.state.level ≡ a.state.level)
+togo_less a b left e h k m = togo_step a.state.wanted b.state.wanted a.state.level b.state.level (left - 1) (e ∙ omega arith) (omega arith) m
 
 -- behind the order's closing bracket no token goes on
 pub order_left : (l k : ℕ) (w : Wanted) → l ≡ 0 → Closes l w k → w ≡ Finish
@@ -86,7 +86,7 @@ pub nowhere : (w w' : Wanted) (l k : ℕ) → w ≡ Finish → Moved w l w' k �
 nowhere w w' l k e m = subst (λ (x : Wanted). Moved x l w' k) e m
 
 -- ---- one token where the end is not wanted
-pub goes_on : (s : State) (o : Option Order) (s' : State) → (s.wanted ≡ Finish → ⊥) → Steps s (Ok o) s' → Onward (λ x. Moved s.wanted s.level x.wanted x.level) s s'
+pub goes_on : (s : Cursor) (o : Option Order) (s' : Cursor) → (s.state.wanted ≡ Finish → ⊥) → Steps s (Ok o) s' → Onward (λ x. Moved s.state.wanted s.state.level x.state.wanted x.state.level) s s'
 goes_on s None s' n t = t
 goes_on s (Some order) s' n t = absurd (n t.1)
 

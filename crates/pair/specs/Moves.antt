@@ -3,13 +3,13 @@ use Rattle.std.specs.Prelude.{◌≡◌, Result, Ok, Err, ℕ}
 use Rattle.rules.specs.declared.Wanted.{Wanted}
 use Rattle.rules.specs.declared.Wanted.TheVariants.{OrderOpen, OrderWord, Boards, ItemOrClose, ItemWord, GroupDue, JobWork, JobDue, JobClose, Finish}
 use Rattle.refusals.specs.declared.Fault.{Fault}
-use Rattle.grammar.specs.declared.State.{State}
+use Rattle.grammar.specs.declared.Cursor.{Cursor}
 use Rattle.grammar.specs.Turns.{Finished}
 use Rattle.reader.specs.Ways.{Onward}
 
 -- behind an item the next item or the closing bracket is wanted, at the same level
-abbrev pub Stays : State → State → Type 0
-Stays s x = (x.wanted ≡ ItemOrClose) × (x.level ≡ s.level)
+abbrev pub Stays : Cursor → Cursor → Type 0
+Stays s x = (x.state.wanted ≡ ItemOrClose) × (x.state.level ≡ s.state.level)
 
 -- the tokens to go, none of them left to choice, until an item or a closing bracket is wanted; 9 where that is not so
 unfoldable pub togo : Wanted → ℕ
@@ -25,6 +25,6 @@ togo JobClose = 1
 togo Finish = 9
 
 -- A later place of which P holds, or the refusal of the file.
-abbrev pub To : (State → Type 0) → State → Result Unit Fault → State → Type 0
+abbrev pub To : (Cursor → Type 0) → Cursor → Result Unit Fault → Cursor → Type 0
 To P s (Ok u) s' = Onward P s s'
 To P s (Err fault) s' = Finished s.file.now (Err fault) s'.work.now s'.due.now

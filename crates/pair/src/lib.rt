@@ -1,7 +1,7 @@
 // The item reader and the group reader that call each other: 01, "a group holds items, and an item may be a group". The
 // levels left fall from call to call, so the depth is bounded whatever the file. They meet the contract of the reader that
 // ships, from the same definition, and are never linked into what ships: no compiled function there calls itself.
-// The idea of the proof: each function takes a state that holds a reading, and leaves it at a later place, with what is
+// The idea of the proof: each function takes a cursor that holds a reading, and leaves it at a later place, with what is
 // wanted there, or says how the reading is refused.
 #![tactic(auto)]
 
@@ -13,51 +13,51 @@ ghost use Rattle.grammar.specs.Turns.{Lent};
 ghost use Rattle.reader.specs.Ways.{Ready, Closes};
 ghost use Rattle.pair.specs.Moves.{To, Stays, togo};
 
-use grammar::{Order, State};
+use grammar::{Cursor, Order};
 use reader::{Way, read_by, said, step};
 use refusals::Fault;
 use rules::{OrderRead, Wanted};
 
 // Three tokens of which none is left to choice: the order's bracket, word and boards; a job's work, due and bracket.
-fn three(state: &mut State) -> Result<(), Fault>
-    requires { Ready state.old × (togo state.old.wanted ≡ 3) }
-    ensures lent { Lent state.old state.new }
-    ensures to { To (Stays state.old) state.old result state.new }
+fn three(cursor: &mut Cursor) -> Result<(), Fault>
+    requires { Ready cursor.old × (togo cursor.old.state.wanted ≡ 3) }
+    ensures lent { Lent cursor.old cursor.new }
+    ensures to { To (Stays cursor.old) cursor.old result cursor.new }
 {
     for _ in 0..3u32 {
-        step(state)?;
+        step(cursor)?;
     }
     Ok(())
 }
 
 // An item behind its opening bracket: a job, or a group with its due and its items.
 #[cycle(items)]
-fn item(state: &mut State, levels: usize) -> Result<(), Fault>
-    requires { Ready state.old × (state.old.wanted ≡ ItemWord) × (state.old.level + levels ≡ most_levels) }
-    ensures lent { Lent state.old state.new }
-    ensures to { To (Stays state.old) state.old result state.new }
+fn item(cursor: &mut Cursor, levels: usize) -> Result<(), Fault>
+    requires { Ready cursor.old × (cursor.old.state.wanted ≡ ItemWord) × (cursor.old.state.level + levels ≡ most_levels) }
+    ensures lent { Lent cursor.old cursor.new }
+    ensures to { To (Stays cursor.old) cursor.old result cursor.new }
 {
-    step(state)?;
-    let Wanted::GroupDue = state.wanted else {
-        return three(state);
+    step(cursor)?;
+    let Wanted::GroupDue = cursor.state.wanted else {
+        return three(cursor);
     };
-    step(state)?;
-    group(state, levels - 1)
+    step(cursor)?;
+    group(cursor, levels - 1)
 }
 
 // The items of a group or of the order, and the closing bracket.
 #[cycle(items)]
-fn group(state: &mut State, levels: usize) -> Result<(), Fault>
-    requires { Ready state.old × (state.old.wanted ≡ ItemOrClose) × (state.old.level + levels ≡ most_levels) }
-    ensures lent { Lent state.old state.new }
-    ensures to { To (λ x. Closes state.old.level x.wanted x.level) state.old result state.new }
+fn group(cursor: &mut Cursor, levels: usize) -> Result<(), Fault>
+    requires { Ready cursor.old × (cursor.old.state.wanted ≡ ItemOrClose) × (cursor.old.state.level + levels ≡ most_levels) }
+    ensures lent { Lent cursor.old cursor.new }
+    ensures to { To (λ x. Closes cursor.old.state.level x.state.wanted x.state.level) cursor.old result cursor.new }
 {
     loop {
-        step(state)?;
-        let Wanted::ItemWord = state.wanted else {
+        step(cursor)?;
+        let Wanted::ItemWord = cursor.state.wanted else {
             return Ok(());
         };
-        item(state, levels)?;
+        item(cursor, levels)?;
     }
 }
 
@@ -67,11 +67,11 @@ struct ByItems;
 impl Way for ByItems {
     fn order(file: &[u8], work: &mut [u32], due: &mut [u32]) -> Result<Order, Fault> {
         let mut least = [0u32; 32];
-        let mut state = State::start(file, work, due, &mut least);
-        three(&mut state)?;
-        group(&mut state, 32)?;
+        let mut cursor = Cursor::start(file, work, due, &mut least);
+        three(&mut cursor)?;
+        group(&mut cursor, 32)?;
         // Behind the order's closing bracket each token ends the reading.
-        let Some(order) = step(&mut state)? else {
+        let Some(order) = step(&mut cursor)? else {
             unreachable!();
         };
         Ok(order)

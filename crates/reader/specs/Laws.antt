@@ -11,7 +11,7 @@ use Rattle.rules.specs.Orders.{Reading, Step, go, stop, done, leave, want, step_
 use Rattle.lexer.specs.Scan.{NextToken}
 use Rattle.lexer.specs.declared.Seen.{Seen}
 use Rattle.grammar.specs.declared.Stop.{Stop}
-use Rattle.grammar.specs.declared.State.{State}
+use Rattle.grammar.specs.declared.Cursor.{Cursor}
 use Rattle.grammar.specs.declared.Turn.{Turn}
 use Rattle.grammar.specs.declared.Turn.TheVariants.{Done}
 use Rattle.grammar.specs.Turns.{acted, Goes, Holds, Decides, Acts, Lent, Starts, meant, turned}
@@ -76,8 +76,8 @@ whole JobDue r t p = number_all (Whole JobDue) p (λ q. tt) most_minutes t _ (λ
 whole JobClose r t p = bracket_all (Whole JobClose) p (λ q. tt) t _ _ tt tt
 whole Finish r t p = ending_all (Whole Finish) p (λ q. tt) t _ (pick_all (Whole Finish) (is_empty r.works) _ _ (λ y. tt) (λ n. refl))
 
-module _ (s : State) (c : Ready s) (seen : Seen) (n : NextToken s.file.now s.at seen) (decided : Result Turn Stop) (d : Decides s seen.token seen.place decided) where
-  pub whole_at : decided ≡ Ok Done → s.wanted ≡ Finish
+module _ (s : Cursor) (c : Ready s) (seen : Seen) (n : NextToken s.file.now s.at seen) (decided : Result Turn Stop) (d : Decides s.state seen.token seen.place decided) where
+  pub whole_at : decided ≡ Ok Done → s.state.wanted ≡ Finish
   unfolding turned meant
   whole_at e =
       let r : Reading = c.stands.reading in
@@ -85,13 +85,13 @@ module _ (s : State) (c : Ready s) (seen : Seen) (n : NextToken s.file.now s.at 
       sym c.stands.holds.as_wanted ∙ subst (Whole r.wanted) (m ∙ ap (meant r) e) (whole r.wanted r seen.token seen.place)
 
   -- one token that goes on
-  pub step_on : (act : Turn) → decided ≡ Ok act → Goes act → (s' s'' : State) → Acts s act s' → Lent s s' → s'' ≡ record s' { at = seen.next } → Onward (λ x. Moved s.wanted s.level x.wanted x.level) s s''
+  pub step_on : (act : Turn) → decided ≡ Ok act → Goes act → (s' s'' : Cursor) → Acts s act s' → Lent s s' → s'' ≡ record s' { at = seen.next } → Onward (λ x. Moved s.state.wanted s.state.level x.state.wanted x.state.level) s s''
   step_on act e g s' s'' a lent q =
       let r : Reading = c.stands.reading in
       let h : Holds r s = c.stands.holds in
       let h' : Holds (acted r act) s' = a r c.stands.sound c.long h in
       let m : Moved r.wanted (length r.groups) (acted r act).wanted (length (acted r act).groups) = subst (Leads r.wanted r) (goes s c.stands seen n decided d act e g) (leads r.wanted r seen.token seen.place) in
-      subst (Onward (λ x. Moved s.wanted s.level x.wanted x.level) s) (sym q)
+      subst (Onward (λ x. Moved s.state.wanted s.state.level x.state.wanted x.state.level) s) (sym q)
       (record {
         ready = record {
           stands = stands_on s c.stands seen n decided d act e g s' (record s' { at = seen.next }) c.long a lent refl;
@@ -99,11 +99,11 @@ module _ (s : State) (c : Ready s) (seen : Seen) (n : NextToken s.file.now s.at 
           short_file = omega (arith, c.short_file, ap length lent.same_file);
         };
         later = moves_on s c.stands seen n decided d act e g;
-        there = moved_same r.wanted s.wanted (acted r act).wanted s'.wanted (length r.groups) s.level (length (acted r act).groups) s'.level h.as_wanted h.as_level h'.as_wanted h'.as_level m;
+        there = moved_same r.wanted s.state.wanted (acted r act).wanted s'.state.wanted (length r.groups) s.state.level (length (acted r act).groups) s'.state.level h.as_wanted h.as_level h'.as_wanted h'.as_level m;
       })
 
 -- at the start
-pub ready_start : (s : State) (file work due least : List ℕ) → Starts s file work due least → Fits file work due → most_levels ≤ length least → Ready s
+pub ready_start : (s : Cursor) (file work due least : List ℕ) → Starts s file work due least → Fits file work due → most_levels ≤ length least → Ready s
 ready_start s file work due least a f l = record {
   stands = a.stands;
   long = record { long_work = omega (arith, f.long_work, ap length a.work_is); long_due = omega (arith, f.long_due, ap length a.due_is); long_least = omega (arith, l, ap length a.least_is) };
@@ -111,5 +111,5 @@ ready_start s file work due least a f l = record {
 }
 
 -- the same file and lists, whatever the place
-pub stepped : (s : State) (r : Result (Option Order) Fault) (e : Result (Option Order) Fault) (s' : State) → r ≡ e → Steps s r s' → Steps s e s'
+pub stepped : (s : Cursor) (r : Result (Option Order) Fault) (e : Result (Option Order) Fault) (s' : Cursor) → r ≡ e → Steps s r s' → Steps s e s'
 stepped s r e s' q t = subst (λ (x : Result (Option Order) Fault). Steps s x s') q t

@@ -5,7 +5,7 @@ use Rattle.rules.specs.declared.Wanted.TheVariants.{OrderOpen, OrderWord, Boards
 use Rattle.rules.specs.Basics.{most_jobs, most_bytes}
 use Rattle.refusals.specs.declared.Fault.{Fault}
 use Rattle.grammar.specs.declared.Order.{Order}
-use Rattle.grammar.specs.declared.State.{State}
+use Rattle.grammar.specs.declared.Cursor.{Cursor}
 use Rattle.grammar.specs.Turns.{Stands, Long, Finished}
 
 -- Neither 10 nor 11: the buffers are long enough, and the file is short enough.
@@ -14,8 +14,8 @@ pub record Fits (file work due : List ℕ) : Type 0 where
   pub long_due : most_jobs ≤ length due
   pub short_file : length file ≤ most_bytes
 
--- A place at which the state holds a reading, lists that are long enough, and a file that is short enough.
-pub record Ready (s : State) : Type 0 where
+-- A place at which the cursor holds a reading, lists that are long enough, and a file that is short enough.
+pub record Ready (s : Cursor) : Type 0 where
   pub stands : Stands s
   pub long : Long s
   pub short_file : length s.file.now ≤ most_bytes
@@ -38,13 +38,13 @@ Moved JobClose level wanted later = (wanted ≡ ItemOrClose) × (later ≡ level
 Moved Finish level wanted later = ⊥
 
 -- A later place of the same file, at which P holds.
-pub record Onward (P : State → Type 0) (s s' : State) : Type 0 where
+pub record Onward (P : Cursor → Type 0) (s s' : Cursor) : Type 0 where
   pub ready : Ready s'
   pub later : s.at < s'.at
   pub there : P s'
 
 -- One token: a later place, or the end of the reading; an order is whole only where its end was wanted.
-abbrev pub Steps : State → Result (Option Order) Fault → State → Type 0
-Steps s (Ok None) s' = Onward (λ x. Moved s.wanted s.level x.wanted x.level) s s'
-Steps s (Ok (Some order)) s' = Finished s.file.now (Ok order) s'.work.now s'.due.now × (s.wanted ≡ Finish)
+abbrev pub Steps : Cursor → Result (Option Order) Fault → Cursor → Type 0
+Steps s (Ok None) s' = Onward (λ x. Moved s.state.wanted s.state.level x.state.wanted x.state.level) s s'
+Steps s (Ok (Some order)) s' = Finished s.file.now (Ok order) s'.work.now s'.due.now × (s.state.wanted ≡ Finish)
 Steps s (Err fault) s' = Finished s.file.now (Err fault) s'.work.now s'.due.now

@@ -1,5 +1,5 @@
 // The order reader: any bytes and two lent buffers, and always an answer, accepted or refused.
-// The idea of the proof: the state holds a reading of the definition, and one step is one of its steps. So what is still to
+// The idea of the proof: the cursor holds a reading of the definition, and one step is one of its steps. So what is still to
 // be read from the place on stays what is to be read from the start.
 #![tactic(auto)]
 
@@ -8,20 +8,20 @@ ghost use Rattle.rules.specs.Orders.{read_answer};
 ghost use Rattle.grammar.specs.Turns.{Finished, Lent, said_of};
 ghost use Rattle.reader.specs.Ways.{Fits, Ready, Steps};
 
-use grammar::{Order, State, Turn, clear_behind};
+use grammar::{Cursor, Order, Turn, clear_behind};
 use lexer::next_token;
 use refusals::Fault;
 use rules::{OrderRead, Refusal};
 
 // One token: on to the next, or the order read whole, or the first fault at the token's first byte. `as` goes to fewer bits:
 // the proof shows that the place fits.
-pub fn step(state: &mut State) -> Result<Option<Order>, Fault>
-    requires { Ready state.old }
-    ensures lent { Lent state.old state.new }
-    ensures steps { Steps state.old result state.new }
+pub fn step(cursor: &mut Cursor) -> Result<Option<Order>, Fault>
+    requires { Ready cursor.old }
+    ensures lent { Lent cursor.old cursor.new }
+    ensures steps { Steps cursor.old result cursor.new }
 {
-    let seen = next_token(state.file, state.at);
-    let turn = match state.decide(seen.token, seen.place) {
+    let seen = next_token(cursor.file, cursor.at);
+    let turn = match cursor.decide(seen.token, seen.place) {
         Ok(turn) => turn,
         Err(stop) => {
             return Err(Fault {
@@ -31,12 +31,12 @@ pub fn step(state: &mut State) -> Result<Option<Order>, Fault>
         }
     };
     match turn {
-        Turn::Want(wanted) => state.want_next(wanted),
-        Turn::Take(n) => state.take_in(n),
-        Turn::Leave => state.leave(),
-        Turn::Done => return Ok(Some(state.order())),
+        Turn::Want(wanted) => cursor.want_next(wanted),
+        Turn::Take(n) => cursor.take_in(n),
+        Turn::Leave => cursor.leave(),
+        Turn::Done => return Ok(Some(cursor.order())),
     }
-    state.at = seen.next;
+    cursor.at = seen.next;
     Ok(None)
 }
 
@@ -53,9 +53,9 @@ struct InTurn;
 impl Way for InTurn {
     fn order(file: &[u8], work: &mut [u32], due: &mut [u32]) -> Result<Order, Fault> {
         let mut least = [0u32; 32];
-        let mut state = State::start(file, work, due, &mut least);
+        let mut cursor = Cursor::start(file, work, due, &mut least);
         loop {
-            if let Some(order) = step(&mut state)? {
+            if let Some(order) = step(&mut cursor)? {
                 return Ok(order);
             }
         }

@@ -13,14 +13,14 @@ decreases-group l = l.levels + l.levels + 1
 abbrev pub decreases-item : goal.decreases-item
 decreases-item l = l.levels + l.levels
 
-abbrev pub invariant-group-loop-state : goal.invariant-group-loop-state
-invariant-group-loop-state l = record {
-  ready : Ready l.state;
-  lent : Lent l.fn.state l.state;
-  at_item : l.state.wanted ≡ ItemOrClose;
-  same_level : l.state.level ≡ l.fn.state.level;
-  onward : l.fn.state.at ≤ l.state.at;
+abbrev pub invariant-group-loop-cursor : goal.invariant-group-loop-cursor
+invariant-group-loop-cursor l = record {
+  ready : Ready l.cursor;
+  lent : Lent l.fn.cursor l.cursor;
+  at_item : l.cursor.state.wanted ≡ ItemOrClose;
+  same_level : l.cursor.state.level ≡ l.fn.cursor.state.level;
+  onward : l.fn.cursor.at ≤ l.cursor.at;
 }
 
-abbrev pub decreases-group-loop-state : goal.decreases-group-loop-state
-decreases-group-loop-state l = length l.state.file.now - l.state.at
+abbrev pub decreases-group-loop-cursor : goal.decreases-group-loop-cursor
+decreases-group-loop-cursor l = length l.cursor.file.now - l.cursor.at

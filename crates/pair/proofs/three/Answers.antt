@@ -8,10 +8,10 @@ use Rattle.pair.proofs.three.Goals as goal
 pub loop-preserved : goal.loop-preserved
 loop-preserved c =
     let i = c.loop.invariant in
-    let left : togo c.loop.state.wanted ≡ 3 - c.loop.counter = omega (arith, i.to_go) in
+    let left : togo c.loop.cursor.state.wanted ≡ 3 - c.loop.counter = omega (arith, i.to_go) in
     let few : 3 - c.loop.counter ≤ 3 = omega arith in
-    let on = goes_on c.loop.state c.in_ok-step.field-0 c.step.new.state (not_finish _ _ left few) c.in_ok-step.ensures.steps in
-    let m = togo_less c.loop.state c.step.new.state (3 - c.loop.counter) left (omega (arith, c.loop-test.true)) few on.there in
+    let on = goes_on c.loop.cursor c.in_ok-step.field-0 c.step.new.cursor (not_finish _ _ left few) c.in_ok-step.ensures.steps in
+    let m = togo_less c.loop.cursor c.step.new.cursor (3 - c.loop.counter) left (omega (arith, c.loop-test.true)) few on.there in
     record {
       ready = on.ready;
       lent = lent_on _ _ _ i.lent c.step.ensures.lent;
@@ -23,8 +23,8 @@ loop-preserved c =
 pub returns : goal.returns
 returns c =
     let i = c.loop.invariant in
-    let none : togo c.loop.state.wanted ≡ 0 = omega (arith, i.to_go, c.loop-test.false) in
+    let none : togo c.loop.cursor.state.wanted ≡ 0 = omega (arith, i.to_go, c.loop-test.false) in
     record {
       lent = i.lent;
-      to = record { ready = i.ready; later = omega (arith, i.onward, c.loop-test.false); there = (togo_none c.loop.state.wanted none, i.same_level) };
+      to = record { ready = i.ready; later = omega (arith, i.onward, c.loop-test.false); there = (togo_none c.loop.cursor.state.wanted none, i.same_level) };
     }

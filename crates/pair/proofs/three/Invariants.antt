@@ -7,9 +7,9 @@ use Rattle.pair.proofs.three.Given as goal
 
 abbrev pub invariant-loop : goal.invariant-loop
 invariant-loop l = record {
-  ready : Ready l.state;
-  lent : Lent l.initial.state l.state;
-  to_go : togo l.state.wanted + l.counter ≡ 3;
-  same_level : l.state.level ≡ l.initial.state.level;
-  onward : l.initial.state.at + l.counter ≤ l.state.at;
+  ready : Ready l.cursor;
+  lent : Lent l.initial.cursor l.cursor;
+  to_go : togo l.cursor.state.wanted + l.counter ≡ 3;
+  same_level : l.cursor.state.level ≡ l.initial.cursor.state.level;
+  onward : l.initial.cursor.at + l.counter ≤ l.cursor.at;
 }

@@ -7,5 +7,5 @@ use Rattle.pair.proofs.ByItemsWay.order.Goals as goal
 pub three-requires : goal.three-requires
 unfolding togo
 three-requires c =
-    let s = c.start-state.ensures.starts in
+    let s = c.start-cursor.ensures.starts in
     (ready_start _ _ _ _ _ s c.requires (search rules), ap togo s.wanted)

@@ -1,4 +1,4 @@
--- The invariant: the state holds a reading from which the tokens from the place on give the file's outcome. A step that goes on
+-- The invariant: the cursor holds a reading from which the tokens from the place on give the file's outcome. A step that goes on
 -- moves the place forward, and the bytes left are the measure.
 use Rattle.std.proofs.Common.{length, ◌-◌}
 use Rattle.grammar.specs.Turns.{Lent}
@@ -6,7 +6,7 @@ use Rattle.reader.specs.Ways.{Ready}
 use Rattle.reader.proofs.InTurnWay.order.Given as goal
 
 abbrev pub invariant-loop-order : goal.invariant-loop-order
-invariant-loop-order l = record { ready : Ready l.state; lent : Lent l.initial.state l.state }
+invariant-loop-order l = record { ready : Ready l.cursor; lent : Lent l.initial.cursor l.cursor }
 
 abbrev pub decreases-loop-order : goal.decreases-loop-order
-decreases-loop-order l = length l.state.file.now - l.state.at
+decreases-loop-order l = length l.cursor.file.now - l.cursor.at

@@ -1,7 +1,7 @@
 -- The level is the number of groups, so the test tells the order's bracket from a group's.
 use Rattle.grammar.specs.Laws.{holds_left_order, holds_left_group}
 use Rattle.grammar.specs.Turns.{acted}
-use Rattle.grammar.proofs.State.leave.Goals as goal
+use Rattle.grammar.proofs.Cursor.leave.Goals as goal
 
 pub returns-then-self-eq0-clause-changes : goal.returns-then-self-eq0-clause-changes
 unfolding acted

@@ -2,7 +2,7 @@
 use Rattle.std.proofs.Common.{rules}
 use Rattle.grammar.proofs.Others.{no_take}
 use Rattle.grammar.specs.Laws.{took_boards, took_group, took_work, took_due, took_none}
-use Rattle.grammar.proofs.State.take_in.Goals as goal
+use Rattle.grammar.proofs.Cursor.take_in.Goals as goal
 
 pub returns-in-Boards-clause-acts : goal.returns-in-Boards-clause-acts
 returns-in-Boards-clause-acts c = λ r sound long h. took_boards _ _ _ _ _ _ _ _ h c.args.n c.in-Boards.is
@@ -23,5 +23,5 @@ pub returns-in_default : goal.returns-in_default
 returns-in_default c = record {
   lent = search rules;
   place = search rules;
-  acts = λ r sound long h. took_none _ _ _ _ _ _ _ _ h c.args.n (no_take c.args.self.now.wanted c.in_default.not-Boards c.in_default.not-GroupDue c.in_default.not-JobWork c.in_default.not-JobDue);
+  acts = λ r sound long h. took_none _ _ _ _ _ _ _ _ h c.args.n (no_take c.args.self.now.state.wanted c.in_default.not-Boards c.in_default.not-GroupDue c.in_default.not-JobWork c.in_default.not-JobDue);
 }
