@@ -1,10 +1,10 @@
 -- The minutes of each job, added up row by row, against the works.
-use Rattle.std.specs.Prelude.{◌≡◌, refl, Bool, true, ◌&&◌, Some, List, [], ◌∷◌, ℕ, zero, suc, ◌+◌, ◌*◌, ◌-◌, ◌≤◌, ◌<◌, length, get_or, set, eqb, nat_eq}
+use Rattle.std.specs.Prelude.{◌≡◌, refl, Bool, true, ◌&&◌, Some, List, [], ◌∷◌, ℕ, zero, suc, ◌+◌, ◌*◌, ◌-◌, ◌≤◌, ◌<◌, length, get_or, set, eqb}
 use Rattle.std.specs.Borrow.{Bor}
 use Rattle.std.specs.declared.slice.ChunksExact.{ChunksExact}
 use Rattle.std.specs.Slice.Iter.{chunks_exact_rest, chunks_exact_size, chunks_exact_steps}
-use Rattle.std.specs.List.{starts_with}
-use Rattle.std.proofs.Common.{sym, ap, ap₂, ◌∙◌, inl, inr, arith, add-zero, zero-add, eq-eqb, ne_eqb, length-set, get_or-set_same, get_or-set_other, eqb-true}
+use Rattle.std.specs.List.{list_all, zip}
+use Rattle.std.proofs.Common.{sym, ap, ap₂, ◌∙◌, inl, inr, arith, add-zero, zero-add, eq-eqb, length-set, get_or-set_same, get_or-set_other, eqb-true}
 use Rattle.std.proofs.lemmas.Bool.{eqb-false}
 use Rattle.rules.specs.Basics.{pick, All, every, zeros, most_minutes}
 use Rattle.rules.specs.Plans.{Row, Job, first_row, jobs_from, jobs, minutes_of}
@@ -94,28 +94,26 @@ exact_from k (w ∷ works) rows = eqb (minutes_of (suc k) rows) w && exact_from 
 unfoldable pub exact_minutes : List ℕ → List Row → Bool
 exact_minutes works rows = exact_from 0 works rows
 
-equal_turned : (a b : ℕ) → eqb a b ≡ eqb b a
-equal_turned a b =
-    elim (decided (eqb a b)) [
-      | inl e ↦ e ∙ sym (eq-eqb b a (sym (eqb-true a b e)))
-      | inr e ↦ e ∙ sym (ne_eqb b a (λ q. eqb-false a b e (sym q)))
-    ]
+-- whether the minutes that were added up for a job are its work, as the code asks it
+abbrev pub met : ℕ × ℕ → Bool
+met job = eqb job.0 job.1
 
-same_from : (k : ℕ) (rows : List Row) (works spent : List ℕ) → length works ≤ length spent → ((j : ℕ) → j < length spent → get_or spent j 0 ≡ minutes_of (suc (k + j)) rows)
-    → starts_with nat_eq spent works ≡ exact_from k works rows
+met_from : (k : ℕ) (rows : List Row) (works spent : List ℕ) → length works ≤ length spent → ((j : ℕ) → j < length spent → get_or spent j 0 ≡ minutes_of (suc (k + j)) rows)
+    → list_all met (zip spent works) ≡ exact_from k works rows
 unfolding exact_from
-same_from k rows [] spent l f = refl
-same_from k rows (w ∷ works) [] l f = absurd (omega arith)
-same_from k rows (w ∷ works) (s ∷ spent) l f =
-    ap₂ (λ (a b : Bool). a && b) (equal_turned w s ∙ ap (λ (n : ℕ). eqb n w) (f 0 (omega arith) ∙ ap (λ (n : ℕ). minutes_of (suc n) rows) (add-zero k)))
-    (same_from (suc k) rows works spent (omega arith) (λ j h. f (suc j) (omega arith) ∙ ap (λ (n : ℕ). minutes_of (suc n) rows) (next k j)))
+met_from k rows [] [] l f = refl
+met_from k rows [] (s ∷ spent) l f = refl
+met_from k rows (w ∷ works) [] l f = absurd (omega arith)
+met_from k rows (w ∷ works) (s ∷ spent) l f =
+    ap₂ (λ (a b : Bool). a && b) (ap (λ (n : ℕ). eqb n w) (f 0 (omega arith) ∙ ap (λ (n : ℕ). minutes_of (suc n) rows) (add-zero k)))
+    (met_from (suc k) rows works spent (omega arith) (λ j h. f (suc j) (omega arith) ∙ ap (λ (n : ℕ). minutes_of (suc n) rows) (next k j)))
   where
     next : (k j : ℕ) → k + suc j ≡ suc k + j
     next k j = omega arith
 
-pub exact_spent : (rows : List Row) (works spent : List ℕ) → length works ≤ length spent → Spent rows spent → starts_with nat_eq spent works ≡ exact_minutes works rows
+pub exact_spent : (rows : List Row) (works spent : List ℕ) → length works ≤ length spent → Spent rows spent → list_all met (zip spent works) ≡ exact_minutes works rows
 unfolding exact_minutes
-exact_spent rows works spent l s = same_from 0 rows works spent l (λ j h. s j h ∙ ap (λ (n : ℕ). minutes_of (suc n) rows) (sym (zero-add j)))
+exact_spent rows works spent l s = met_from 0 rows works spent l (λ j h. s j h ∙ ap (λ (n : ℕ). minutes_of (suc n) rows) (sym (zero-add j)))
 
 -- the same of the jobs, one by one
 pub exact_jobs : (works dues : List ℕ) (rows : List Row) → length works ≡ length dues → exact_minutes works rows ≡ every (λ (j : Job). eqb (minutes_of j.number rows) j.work) (jobs works dues)
