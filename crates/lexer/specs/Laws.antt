@@ -3,14 +3,13 @@ use Rattle.std.specs.Prelude.{◌≡◌, refl, Bool, true, false, not, ◌&&◌,
 use Rattle.std.proofs.Common.{sym, ap, ◌∙◌, inl, inr, pow-suc, lt_of_le_of_lt, add-one, arith, length-drop, drop_of_length-le, drop-cons, take-suc, get_or-drop, lit<, eqb-true, eq-eqb, ne_eqb, ltb-true, ltb-false}
 use Rattle.std.proofs.Math.Nat.{pow-le-pow_right}
 use Rattle.std.proofs.lemmas.Bool.{lt-leb}
-use lib.Pointwise.{pointwise}
-use Rattle.std.specs.List.{list_all}
+use Rattle.std.specs.List.{list_all, zip}
 use Rattle.rules.specs.declared.Word.TheVariants.{Order, Group, Job, Number, Other}
 use Rattle.rules.specs.declared.Token.{Token}
 use Rattle.rules.specs.declared.Token.TheVariants.{Open, Close, Atom, End, Foreign}
 use Rattle.rules.specs.Basics.{pick, is_empty, every, within, text, most_digits}
 use Rattle.rules.specs.Tokens.{Placed, is_number, is_digit, is_letter_or_digit, is_blank, value_from, same, kind, between, closing, tokens_from}
-use Rattle.laws.specs.Tests.{decided, pick_yes, pick_no, or_cases, and_left, and_right, and_no_left, and_no_right, within_yes, within_low, within_high}
+use Rattle.laws.specs.Tests.{decided, pick_yes, pick_no, or_cases, and_no_left, and_no_right, within_yes, within_low, within_high}
 use Rattle.lexer.specs.Scan.{tokens_at, is_last, behind, placed, NextToken, BlanksSkipped, AtomRead, RunEnd}
 
 -- ---- bytes
@@ -32,23 +31,33 @@ blank_no_letter b e =
     elim (or_cases (eqb b 32) (eqb b 10) e) [ inl h ↦ no_letter b (omega (arith, eqb-true b 32 h)) | inr h ↦ no_letter b (omega (arith, eqb-true b 10 h)) ]
 
 -- ---- words
-pointwise_same : (a b : List ℕ) → pointwise eqb a b ≡ same a b
+pub same_no_length : (a b : List ℕ) → (length a ≡ length b → ⊥) → same a b ≡ false
 unfolding same
-pointwise_same [] [] = refl
-pointwise_same [] (y ∷ b) = refl
-pointwise_same (x ∷ a) [] = refl
-pointwise_same (x ∷ a) (y ∷ b) = ap (λ (t : Bool). eqb x y && t) (pointwise_same a b)
+same_no_length [] [] h = absurd (h refl)
+same_no_length [] (y ∷ b) h = refl
+same_no_length (x ∷ a) [] h = refl
+same_no_length (x ∷ a) (y ∷ b) h = and_no_right (eqb x y) _ (same_no_length a b (λ e. h (ap suc e)))
 
--- what `==` said of a word and a text
-pub told : (w text : List ℕ) {part : List ℕ} {r answer : Bool} → r ≡ pointwise eqb w part → part ≡ text → r ≡ answer → same w text ≡ answer
-told w text e p a = sym (pointwise_same w text) ∙ sym (ap (pointwise eqb w) p) ∙ sym e ∙ a
-
-pub all_every : (p : ℕ → Bool) (w : List ℕ) → list_all p w ≡ every p w
-unfolding every
-all_every p [] = refl
-all_every p (x ∷ w) = ap (λ (t : Bool). p x && t) (all_every p w)
+pub all_same : (a b : List ℕ) → length a ≡ length b → list_all (λ (p : ℕ × ℕ). eqb p.0 p.1) (zip a b) ≡ same a b
+unfolding same
+all_same [] [] h = refl
+all_same [] (y ∷ b) h = absurd (omega (arith, h))
+all_same (x ∷ a) [] h = absurd (omega (arith, h))
+all_same (x ∷ a) (y ∷ b) h = ap (λ (t : Bool). eqb x y && t) (all_same a b (omega (arith, h)))
 
 -- a loop over a word from its start, where the answer from here is the answer from the start
+pub every_end : (p : ℕ → Bool) (w : List ℕ) (i : ℕ) → length w ≤ i → every p (drop i w) ≡ true
+unfolding every
+every_end p w i h = rw (drop_of_length-le w {i = i} h)
+
+pub every_more : (p : ℕ → Bool) (w : List ℕ) (i : ℕ) → i < length w → p (get_or w i 0) ≡ true → every p (drop i w) ≡ every p (drop (i + 1) w)
+unfolding every
+every_more p w i h e = rw (add-one, drop-cons w i 0 h, e)
+
+pub every_fails : (p : ℕ → Bool) (w : List ℕ) (i : ℕ) → i < length w → p (get_or w i 0) ≡ false → every p (drop i w) ≡ false
+unfolding every
+every_fails p w i h e = rw (drop-cons w i 0 h, e)
+
 pub value_end : (n : ℕ) (w : List ℕ) (i : ℕ) → length w ≤ i → value_from n (drop i w) ≡ n
 unfolding value_from
 value_end n w i h = rw (drop_of_length-le w {i = i} h)
@@ -192,26 +201,9 @@ number_digits w n l z =
     and_true true = refl
     and_true false = refl
 
-pub number_short : (w : List ℕ) → is_number w ≡ true → length w ≤ most_digits
-unfolding is_number
-number_short w e = within_high 1 7 (length w) (and_left (within 1 most_digits (length w)) (every is_digit w && not (eqb (get_or w 0 0) 48)) e)
-
-pub number_all : (w : List ℕ) → is_number w ≡ true → every is_digit w ≡ true
-unfolding is_number
-number_all w e = and_left (every is_digit w) (not (eqb (get_or w 0 0) 48)) (and_right (within 1 most_digits (length w)) (every is_digit w && not (eqb (get_or w 0 0) 48)) e)
-
-pub every_at : (p : ℕ → Bool) (w : List ℕ) (i : ℕ) → every p w ≡ true → i < length w → p (get_or w i 0) ≡ true
-unfolding every
-every_at p [] i e h = absurd (omega arith)
-every_at p (x ∷ w) zero e h = and_left (p x) (every p w) e
-every_at p (x ∷ w) (suc i) e h = every_at p w i (and_right (p x) (every p w) e) (omega arith)
-
--- a byte of a word of digits
-pub digit_at : (w : List ℕ) (i : ℕ) → every is_digit w ≡ true → i < length w → (48 ≤ get_or w i 0) × (get_or w i 0 ≤ 57)
+pub digit_is : (b : ℕ) → is_digit b ≡ true → (48 ≤ b) × (b ≤ 57)
 unfolding is_digit
-digit_at w i e h =
-    let d : is_digit (get_or w i 0) ≡ true = every_at is_digit w i e h in
-    (within_low 48 57 (get_or w i 0) d, within_high 48 57 (get_or w i 0) d)
+digit_is b d = (within_low 48 57 b d, within_high 48 57 b d)
 
 -- ---- kinds, in the definition's order
 pub kind_order : (w : List ℕ) → same w (text "order") ≡ true → kind w ≡ Order

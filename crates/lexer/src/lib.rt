@@ -3,9 +3,9 @@
 // the atom read so far in hand, the same from each byte of the atom. Each byte is looked at a constant number of times.
 #![tactic(auto)]
 
-ghost use Rattle.std.specs.Prelude.{◌≡◌, true, ◌≤◌, length};
-ghost use Rattle.rules.specs.Basics.{every, most_digits};
-ghost use Rattle.rules.specs.Tokens.{is_digit, is_letter_or_digit, is_blank, is_number, value_from, kind};
+ghost use Rattle.std.specs.Prelude.{◌≡◌};
+ghost use Rattle.rules.specs.Basics.{pick};
+ghost use Rattle.rules.specs.Tokens.{is_digit, is_letter_or_digit, is_blank, is_number, value_from, same, kind};
 ghost use Rattle.lexer.specs.Scan.{NextToken, RunEnd};
 
 use rules::{Token, Word};
@@ -55,45 +55,46 @@ fn run_end<F: Fn(u8) -> bool>(s: &[u8], at: usize, test: F) -> usize
 // 01: "A number is 1 to 7 digits"; crates/rules/specs/Basics.antt has it as most_digits.
 const MOST_DIGITS: usize = 7;
 
-// 01: "A number is 1 to 7 digits, the first not 0".
-fn is_number(w: &[u8]) -> bool
-    ensures { result ≡ is_number w.now }
+// 01: "A number is 1 to 7 digits, the first not 0". Seven digits are below ten million, so the value fits. Test and value in
+// one loop: two would give the loop over blanks four more counters to keep. No `fold`: a total that it carries gets no bound.
+fn number_or_other(w: &[u8]) -> Word
+    ensures { result ≡ pick (is_number w.now) (Word.Number (value_from 0 w.now)) Word.Other }
 {
     if w.is_empty() || MOST_DIGITS < w.len() {
-        return false;
+        return Word::Other;
     }
-    w[0] != b'0' && w.iter().all(|b| is_digit(*b))
-}
-
-// Seven digits are below ten million, so the value fits. No `fold`: a total that it carries gets no bound.
-fn value(w: &[u8]) -> u32
-    requires short { length w.now ≤ most_digits }
-    requires digits { every is_digit w.now ≡ true }
-    ensures { result ≡ value_from 0 w.now }
-{
+    if w[0] == b'0' {
+        return Word::Other;
+    }
     let mut n = 0;
     for b in w {
+        if !is_digit(*b) {
+            return Word::Other;
+        }
         n = n * 10 + u32::from(*b - b'0');
     }
-    n
+    Word::Number(n)
 }
 
-// By `==`, not by patterns: in an arm `b"job"` a proof knows the length and no byte (tried).
-// Not inlined: its comparisons would give the loop over blanks five counters to keep.
-#[inline(never)]
+// By pairs, not by `==` at slices: that calls a search of the library, which stays out of line.
+fn same_bytes(w: &[u8], word: &[u8]) -> bool
+    ensures { result ≡ same w.now word.now }
+{
+    w.len() == word.len() && w.iter().zip(word).all(|(a, b)| a == b)
+}
+
+// Not by patterns: in an arm `b"job"` a proof knows the length and no byte (tried).
 fn kind_of(w: &[u8]) -> Word
     ensures { result ≡ kind w.now }
 {
-    if w == b"order".as_slice() {
+    if same_bytes(w, b"order") {
         Word::Order
-    } else if w == b"group".as_slice() {
+    } else if same_bytes(w, b"group") {
         Word::Group
-    } else if w == b"job".as_slice() {
+    } else if same_bytes(w, b"job") {
         Word::Job
-    } else if is_number(w) {
-        Word::Number(value(w))
     } else {
-        Word::Other
+        number_or_other(w)
     }
 }
 

@@ -1,7 +1,0 @@
--- The value from here on, begun at n, is the value from the start; n has as many digits as were read, so no sum is too large.
-use Rattle.std.proofs.Common.{drop, ◌<◌, ◌^◌, ◌≡◌}
-use Rattle.rules.specs.Tokens.{value_from}
-use Rattle.lexer.proofs.value.Given as goal
-
-abbrev pub invariant-loop-b : goal.invariant-loop-b
-invariant-loop-b l = (l.n < 10 ^ l.b-index) × (value_from l.n (drop l.b-index l.w) ≡ value_from 0 l.w)
