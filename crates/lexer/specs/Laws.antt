@@ -9,7 +9,7 @@ use Rattle.rules.specs.declared.Token.{Token}
 use Rattle.rules.specs.declared.Token.TheVariants.{Open, Close, Atom, End, Foreign}
 use Rattle.rules.specs.Basics.{pick, is_empty, every, within, text, most_digits}
 use Rattle.rules.specs.Tokens.{Placed, is_number, is_digit, is_letter_or_digit, is_blank, value_from, same, kind, between, closing, tokens_from}
-use Rattle.laws.specs.Tests.{decided, pick_yes, pick_no, or_cases, and_no_left, and_no_right, within_yes, within_low, within_high}
+use Rattle.laws.specs.Tests.{decided, pick_yes, pick_no, or_cases, and_left, and_right, and_no_left, and_no_right, within_yes, within_low, within_high}
 use Rattle.lexer.specs.Scan.{tokens_at, is_last, behind, placed, NextToken, BlanksSkipped, AtomRead, RunEnd}
 
 -- ---- bytes
@@ -177,6 +177,14 @@ value_fits i n d h k l =
     let j : i ≤ 6 = omega arith in
     let m : 10 ^ i ≤ 10 ^ 6 = pow-le-pow_right (lit< tt) j in
     (omega arith, omega arith)
+
+pub number_short : (w : List ℕ) → is_number w ≡ true → length w ≤ most_digits
+unfolding is_number
+number_short w e = within_high 1 7 (length w) (and_left (within 1 most_digits (length w)) (every is_digit w && not (eqb (get_or w 0 0) 48)) e)
+
+pub number_all : (w : List ℕ) → is_number w ≡ true → every is_digit w ≡ true
+unfolding is_number
+number_all w e = and_left (every is_digit w) (not (eqb (get_or w 0 0) 48)) (and_right (within 1 most_digits (length w)) (every is_digit w && not (eqb (get_or w 0 0) 48)) e)
 
 pub number_long : (w : List ℕ) → 7 < length w → is_number w ≡ false
 unfolding is_number within

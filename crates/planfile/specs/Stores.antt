@@ -24,10 +24,10 @@ first_bytes (suc (suc (suc (suc zero)))) x h = rw (div-div-eq-div-mul x 256 256,
 first_bytes (suc (suc (suc (suc (suc n))))) x h = absurd (omega arith)
 
 -- the first bytes of a number, set at a place
-pub put_number : (b v w : List ℕ) (at n x : ℕ) → n ≤ 4 → w ≡ to_le_bytes w32 x → v ≡ take n w → put_mid at (at + n - at) b v ≡ stored b at (bytes_of n x)
+pub put_number : (b v w : List ℕ) (at n x y : ℕ) → n ≤ 4 → y ≡ x → w ≡ to_le_bytes w32 y → v ≡ take n w → put_mid at (at + n - at) b v ≡ stored b at (bytes_of n x)
 unfolding stored
-put_number b v w at n x h p q =
-    let e : v ≡ bytes_of n x = q ∙ ap (take n) p ∙ first_bytes n x h in
+put_number b v w at n x y h s p q =
+    let e : v ≡ bytes_of n x = q ∙ ap (take n) (p ∙ ap (to_le_bytes w32) s) ∙ first_bytes n x h in
     ap₂ (λ (l r : List ℕ). take at b ++ (l ++ r)) e
     (drop-drop (at + n - at) at b ∙ ap (λ (k : ℕ). drop k b) (omega (arith, length_bytes_of n x)))
 
