@@ -20,7 +20,7 @@ use Rattle.grammar.specs.declared.Stop.{Stop}
 use Rattle.grammar.specs.declared.Cursor.{Cursor}
 use Rattle.grammar.specs.declared.Turn.{Turn}
 use Rattle.grammar.specs.declared.Turn.TheVariants.{Want, Take, Leave, Done}
-use Rattle.grammar.specs.Turns.{acted, turned, meant, Goes, deepest, fullest, half, Sound, Decides, Long, Lent, Acts, Changes, Untouched, Bounded, Finished, Stands}
+use Rattle.grammar.specs.Turns.{acted, turned, meant, Goes, deepest, fullest, half, Sound, Decides, Long, Lent, LentAll, Acts, Changes, Untouched, Bounded, Finished, Stands}
 
 -- ---- a fact of a step, from the same fact of the steps that it chooses from
 pub pick_all : {A : Type 0} (P : A → Type 0) (b : Bool) (x y : A) → (b ≡ true → P x) → (b ≡ false → P y) → P (pick b x y)
@@ -272,11 +272,13 @@ lent_on s s' s'' a b = record {
   same_file = b.same_file ∙ a.same_file;
   same_work = b.same_work ∙ a.same_work;
   same_due = b.same_due ∙ a.same_due;
-  same_least = b.same_least ∙ a.same_least;
   length_work = b.length_work ∙ a.length_work;
   length_due = b.length_due ∙ a.length_due;
   length_least = b.length_least ∙ a.length_least;
 }
+
+pub lent_all_on : (s s' s'' : Cursor) → LentAll s s' → LentAll s' s'' → LentAll s s''
+lent_all_on s s' s'' a b = record { lent = lent_on s s' s'' a.lent b.lent; same_least = b.same_least ∙ a.same_least }
 
 pub changes_acts : (s : Cursor) (t : Turn) (s' : Cursor) → Changes s.state t s'.state → Untouched s s' → Acts s t s'
 changes_acts s t s' c u = λ r sound long h. rw (u.as_work, u.as_due, u.as_least) (c r s.work.now s.due.now s.least.now h)

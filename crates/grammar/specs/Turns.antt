@@ -143,15 +143,19 @@ pub record Long (s : Cursor) : Type 0 where
   pub long_due : most_jobs ≤ length s.due.now
   pub long_least : most_levels ≤ length s.least.now
 
--- the same file and the same lists, each as long as before
+-- the same file, the same works and dues, and each list as long as before
 pub record Lent (s s' : Cursor) : Type 0 where
   pub same_file : s'.file.now ≡ s.file.now
   pub same_work : s'.work.ghost_name ≡ s.work.ghost_name
   pub same_due : s'.due.ghost_name ≡ s.due.ghost_name
-  pub same_least : s'.least.ghost_name ≡ s.least.ghost_name
   pub length_work : length s'.work.now ≡ length s.work.now
   pub length_due : length s'.due.now ≡ length s.due.now
   pub length_least : length s'.least.now ≡ length s.least.now
+
+-- and the same least dues: each list is the one that was lent
+pub record LentAll (s s' : Cursor) : Type 0 where
+  pub lent : Lent s s'
+  pub same_least : s'.least.ghost_name ≡ s.least.ghost_name
 
 -- State and lists are changed as the turn changes the reading.
 abbrev pub Acts : Cursor → Turn → Cursor → Type 0

@@ -8,7 +8,7 @@
 ghost use Rattle.std.specs.Prelude.{◌≡◌, Result, Ok, Err, List, ℕ, ◌≤◌, eqb, ltb, length, get_or, set};
 ghost use Rattle.rules.specs.Basics.{pick, most_jobs, most_levels};
 ghost use Rattle.rules.specs.Orders.{Reading, go, stop, done, want, bracket, word, number, ending, after_reading};
-ghost use Rattle.grammar.specs.Turns.{acted, meant, misplaced_as, capped, said_of, Decides, Acts, Changes, Untouched, Lent, Starts, Bounded, Writable, Answers, outcome_of};
+ghost use Rattle.grammar.specs.Turns.{acted, meant, misplaced_as, capped, said_of, Decides, Acts, Changes, Untouched, LentAll, Starts, Bounded, Writable, Answers, outcome_of};
 
 use lists::clear_from;
 use refusals::Fault;
@@ -299,7 +299,7 @@ impl<'f, 'w, 'd, 'l> Cursor<'f, 'w, 'd, 'l> {
     }
 
     pub fn want_next(&mut self, wanted: Wanted)
-        ensures lent { Lent self.old self.new }
+        ensures lent { LentAll self.old self.new }
         ensures changes { Changes self.old.state (Turn.Want wanted) self.new.state }
         ensures stays { Untouched self.old self.new }
     {
@@ -308,7 +308,7 @@ impl<'f, 'w, 'd, 'l> Cursor<'f, 'w, 'd, 'l> {
 
     // `)` leaves the innermost group, or the order.
     pub fn leave(&mut self)
-        ensures lent { Lent self.old self.new }
+        ensures lent { LentAll self.old self.new }
         ensures changes { Changes self.old.state Turn.Leave self.new.state }
         ensures stays { Untouched self.old self.new }
     {
@@ -323,7 +323,7 @@ impl<'f, 'w, 'd, 'l> Cursor<'f, 'w, 'd, 'l> {
     // A number, taken for what was wanted: the boards, a group's due, a job's work or a job's due.
     pub fn take_in(&mut self, n: u32)
         requires { Bounded self.old.state }
-        ensures lent { Lent self.old self.new }
+        ensures lent { LentAll self.old self.new }
         ensures acts { Acts self.old (Turn.Take n) self.new }
         ensures place { self.new.at ≡ self.old.at }
     {

@@ -9,7 +9,7 @@ ghost use Rattle.std.specs.Prelude.{◌≡◌, ◌+◌};
 ghost use Rattle.rules.specs.declared.Wanted.TheVariants.{ItemOrClose, ItemWord};
 ghost use Rattle.rules.specs.Basics.{most_levels};
 ghost use Rattle.rules.specs.Orders.{read_answer};
-ghost use Rattle.grammar.specs.Turns.{Lent};
+ghost use Rattle.grammar.specs.Turns.{LentAll};
 ghost use Rattle.reader.specs.Ways.{Ready, Closes};
 ghost use Rattle.pair.specs.Moves.{To, Stays, togo};
 
@@ -21,7 +21,7 @@ use rules::{OrderRead, Wanted};
 // Three tokens of which none is left to choice: the order's bracket, word and boards; a job's work, due and bracket.
 fn three(cursor: &mut Cursor) -> Result<(), Fault>
     requires { Ready cursor.old × (togo cursor.old.state.wanted ≡ 3) }
-    ensures lent { Lent cursor.old cursor.new }
+    ensures lent { LentAll cursor.old cursor.new }
     ensures to { To (Stays cursor.old) cursor.old result cursor.new }
 {
     for _ in 0..3u32 {
@@ -34,7 +34,7 @@ fn three(cursor: &mut Cursor) -> Result<(), Fault>
 #[cycle(items)]
 fn item(cursor: &mut Cursor, levels: usize) -> Result<(), Fault>
     requires { Ready cursor.old × (cursor.old.state.wanted ≡ ItemWord) × (cursor.old.state.level + levels ≡ most_levels) }
-    ensures lent { Lent cursor.old cursor.new }
+    ensures lent { LentAll cursor.old cursor.new }
     ensures to { To (Stays cursor.old) cursor.old result cursor.new }
 {
     step(cursor)?;
@@ -49,7 +49,7 @@ fn item(cursor: &mut Cursor, levels: usize) -> Result<(), Fault>
 #[cycle(items)]
 fn group(cursor: &mut Cursor, levels: usize) -> Result<(), Fault>
     requires { Ready cursor.old × (cursor.old.state.wanted ≡ ItemOrClose) × (cursor.old.state.level + levels ≡ most_levels) }
-    ensures lent { Lent cursor.old cursor.new }
+    ensures lent { LentAll cursor.old cursor.new }
     ensures to { To (λ x. Closes cursor.old.state.level x.state.wanted x.state.level) cursor.old result cursor.new }
 {
     loop {

@@ -95,7 +95,7 @@ module _ (s : Cursor) (c : Ready s) (seen : Seen) (n : NextToken s.file.now s.at
       (record {
         ready = record {
           stands = stands_on s c.stands seen n decided d act e g s' (record s' { at = seen.next }) c.long a lent refl;
-          long = long_lent s (record s' { at = seen.next }) c.long (record { same_file = lent.same_file; same_work = lent.same_work; same_due = lent.same_due; same_least = lent.same_least; length_work = lent.length_work; length_due = lent.length_due; length_least = lent.length_least });
+          long = long_lent s (record s' { at = seen.next }) c.long (record { same_file = lent.same_file; same_work = lent.same_work; same_due = lent.same_due; length_work = lent.length_work; length_due = lent.length_due; length_least = lent.length_least });
           short_file = omega (arith, c.short_file, ap length lent.same_file);
         };
         later = moves_on s c.stands seen n decided d act e g;

@@ -5,7 +5,7 @@
 
 ghost use Rattle.std.specs.Prelude.{◌≡◌};
 ghost use Rattle.rules.specs.Orders.{read_answer};
-ghost use Rattle.grammar.specs.Turns.{Finished, Lent, said_of};
+ghost use Rattle.grammar.specs.Turns.{Finished, LentAll, said_of};
 ghost use Rattle.reader.specs.Ways.{Fits, Ready, Steps};
 
 use grammar::{Cursor, Order, Turn, clear_behind};
@@ -17,7 +17,7 @@ use rules::{OrderRead, Refusal};
 // the proof shows that the place fits.
 pub fn step(cursor: &mut Cursor) -> Result<Option<Order>, Fault>
     requires { Ready cursor.old }
-    ensures lent { Lent cursor.old cursor.new }
+    ensures lent { LentAll cursor.old cursor.new }
     ensures steps { Steps cursor.old result cursor.new }
 {
     let seen = next_token(cursor.file, cursor.at);

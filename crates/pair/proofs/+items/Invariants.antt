@@ -3,7 +3,7 @@
 -- The group's invariant: the next item or the closing bracket is wanted, at the group's own level.
 use Rattle.std.proofs.Common.{◌≡◌, ◌+◌, ◌-◌, ◌≤◌, length}
 use Rattle.rules.specs.declared.Wanted.TheVariants.{ItemOrClose}
-use Rattle.grammar.specs.Turns.{Lent}
+use Rattle.grammar.specs.Turns.{LentAll}
 use Rattle.reader.specs.Ways.{Ready}
 use Rattle.pair.proofs.+items.Given as goal
 
@@ -16,7 +16,7 @@ decreases-item l = l.levels + l.levels
 abbrev pub invariant-group-loop-cursor : goal.invariant-group-loop-cursor
 invariant-group-loop-cursor l = record {
   ready : Ready l.cursor;
-  lent : Lent l.fn.cursor l.cursor;
+  lent : LentAll l.fn.cursor l.cursor;
   at_item : l.cursor.state.wanted ≡ ItemOrClose;
   same_level : l.cursor.state.level ≡ l.fn.cursor.state.level;
   onward : l.fn.cursor.at ≤ l.cursor.at;

@@ -1,6 +1,6 @@
 -- A token that goes on leaves one token fewer to go, and three turns have three tokens behind them.
 use Rattle.std.proofs.Common.{◌≡◌, ◌≤◌, ◌-◌, ◌∙◌, arith}
-use Rattle.grammar.specs.Steps.{lent_on}
+use Rattle.grammar.specs.Steps.{lent_all_on}
 use Rattle.pair.specs.Laws.{goes_on, not_finish, togo_less, togo_none}
 use Rattle.pair.specs.Moves.{togo}
 use Rattle.pair.proofs.three.Goals as goal
@@ -14,7 +14,7 @@ loop-preserved c =
     let m = togo_less c.loop.cursor c.step.new.cursor (3 - c.loop.counter) left (omega (arith, c.loop-test.true)) few on.there in
     record {
       ready = on.ready;
-      lent = lent_on _ _ _ i.lent c.step.ensures.lent;
+      lent = lent_all_on _ _ _ i.lent c.step.ensures.lent;
       to_go = omega (arith, m.0, c.loop-test.true);
       same_level = m.1 ∙ i.same_level;
       onward = omega (arith, on.later, i.onward);

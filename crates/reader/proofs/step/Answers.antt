@@ -41,9 +41,9 @@ returns-clause-steps c =
     let on = step_on c.args.cursor.now c.requires _ c.next_token-seen.ensures _ c.decide.ensures in
     elim c.match-turn.branch [
       | in-Want w ↦
-          on (Want w.in-Want.wanted) (c.in-Ok.is ∙ ap Ok w.in-Want.is) tt w.want_next.new.self _ (changes_acts _ _ _ w.want_next.ensures.changes w.want_next.ensures.stays) w.want_next.ensures.lent (ap (λ (x : Cursor). record x { at = c.next_token-seen.result.next }) w.cursor-is)
+          on (Want w.in-Want.wanted) (c.in-Ok.is ∙ ap Ok w.in-Want.is) tt w.want_next.new.self _ (changes_acts _ _ _ w.want_next.ensures.changes w.want_next.ensures.stays) w.want_next.ensures.lent.lent (ap (λ (x : Cursor). record x { at = c.next_token-seen.result.next }) w.cursor-is)
       | in-Take w ↦
-          on (Take w.in-Take.n) (c.in-Ok.is ∙ ap Ok w.in-Take.is) tt w.take_in.new.self _ w.take_in.ensures.acts w.take_in.ensures.lent (ap (λ (x : Cursor). record x { at = c.next_token-seen.result.next }) w.cursor-is)
+          on (Take w.in-Take.n) (c.in-Ok.is ∙ ap Ok w.in-Take.is) tt w.take_in.new.self _ w.take_in.ensures.acts w.take_in.ensures.lent.lent (ap (λ (x : Cursor). record x { at = c.next_token-seen.result.next }) w.cursor-is)
       | in-Leave w ↦
-          on Leave (c.in-Ok.is ∙ ap Ok w.in-Leave.is) tt w.leave.new.self _ (changes_acts _ _ _ w.leave.ensures.changes w.leave.ensures.stays) w.leave.ensures.lent (ap (λ (x : Cursor). record x { at = c.next_token-seen.result.next }) w.cursor-is)
+          on Leave (c.in-Ok.is ∙ ap Ok w.in-Leave.is) tt w.leave.new.self _ (changes_acts _ _ _ w.leave.ensures.changes w.leave.ensures.stays) w.leave.ensures.lent.lent (ap (λ (x : Cursor). record x { at = c.next_token-seen.result.next }) w.cursor-is)
     ]
