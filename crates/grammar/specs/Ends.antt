@@ -1,6 +1,7 @@
 -- Laws of the whole answer: what each way out of the reader says and leaves in the buffers.
 use Rattle.std.specs.Prelude.{◌≡◌, refl, Result, Ok, Err, false, ◌||◌, List, ◌++◌, ℕ, ◌-◌, ◌≤◌, ◌<◌, min, length, take, ltb}
-use Rattle.std.proofs.Common.{ap, subst, sym, ◌∙◌, arith, length-take-le, lt-ltb, le-ltb}
+use Rattle.std.proofs.Common.{ap, ap₂, subst, sym, ◌∙◌, arith, length-take-le, take_all, lt-ltb, le-ltb}
+use Rattle.std.proofs.lemmas.List.{take-append-le}
 use Rattle.std.proofs.Math.Decide.{dec_le}
 use Rattle.std.proofs.Math.Nat.{sub-zero}
 use Rattle.rules.specs.declared.Refusal.{Refusal}
@@ -21,6 +22,21 @@ finished_is file (Ok order) work due f = f.0
 pub finished_fits : (file : List ℕ) (e : Result Order Fault) (work due : List ℕ) → most_jobs ≤ length work → most_jobs ≤ length due → Finished file e work due → Writable e work due
 finished_fits file (Err fault) work due w d f = tt
 finished_fits file (Ok order) work due w d f = (omega (arith, f.1), omega (arith, f.1))
+
+front_kept : (k : ℕ) (l l' : List ℕ) → k ≤ length l → l' ≡ take k l ++ zeros (length l - length (take k l)) → take k l' ≡ take k l
+front_kept k l l' h e =
+    ap (take k) e
+    ∙ take-append-le k (take k l) (zeros (length l - length (take k l))) (omega (arith, length-take-le k l h))
+    ∙ take_all k (take k l) (omega (arith, length-take-le k l h))
+
+-- clearing behind the jobs leaves what the file was read as
+pub finished_on : (file : List ℕ) (e : Result Order Fault) (work due work' due' : List ℕ) → Writable e work due → Finished file e work due → Answers (after_reading (outcome_of e work due) work due) e work' due' → Finished file e work' due'
+unfolding outcome_of after_reading
+finished_on file (Err fault) work due work' due' w f a = f
+finished_on file (Ok order) work due work' due' w f a =
+    let works : take order.jobs work' ≡ take order.jobs work = front_kept order.jobs work work' w.0 a.works in
+    let dues : take order.jobs due' ≡ take order.jobs due = front_kept order.jobs due due' w.1 a.dues in
+    (f.0 ∙ ap₂ (accepted order.boards) (sym works) (sym dues), f.1)
 
 -- cleared from where what is kept ends
 module _ (e : Result Order Fault) (kept : ℕ) (work due work' due' : List ℕ) (w : work' ≡ take kept work ++ zeros (length work - kept)) (d : due' ≡ take kept due ++ zeros (length due - kept)) where

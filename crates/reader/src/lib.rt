@@ -64,10 +64,12 @@ impl Way for InTurn {
 
 // 01, Reader: "Order: 10 (either of the two buffers, work and due, holds under 1,000 numbers), 11, then token by token".
 // The three clauses stand word for word at each reader below and at what C calls: a whole answer is stated where it is given.
+// Where neither 10 nor 11 is due the answer is a way's too, so that a caller has from `read` what a way promises.
 pub fn read_by<W: Way>(file: &[u8], work: &mut [u32], due: &mut [u32]) -> Result<Order, Fault>
     ensures said { said_of result ≡ (read_answer file.now work.old due.old).said }
     ensures works { work.new ≡ (read_answer file.now work.old due.old).work }
     ensures dues { due.new ≡ (read_answer file.now work.old due.old).due }
+    ensures finished { Fits file.now work.old due.old → Finished file.now result work.new due.new }
 {
     let room = work.len().min(due.len());
     if room < 1000 {
@@ -86,6 +88,7 @@ pub fn read(file: &[u8], work: &mut [u32], due: &mut [u32]) -> Result<Order, Fau
     ensures said { said_of result ≡ (read_answer file.now work.old due.old).said }
     ensures works { work.new ≡ (read_answer file.now work.old due.old).work }
     ensures dues { due.new ≡ (read_answer file.now work.old due.old).due }
+    ensures finished { Fits file.now work.old due.old → Finished file.now result work.new due.new }
 {
     read_by::<InTurn>(file, work, due)
 }
@@ -108,4 +111,32 @@ pub fn read_order(file: &[u8], work: &mut [u32], due: &mut [u32]) -> OrderRead
     ensures dues { due.new ≡ (read_answer file.now work.old due.old).due }
 {
     said(read(file, work, due))
+}
+
+#[cfg(test)]
+mod tests {
+    use super::*;
+
+    // A way of another crate that asks `read`: what `finished` says.
+    struct AsRead;
+
+    impl Way for AsRead {
+        fn order(file: &[u8], work: &mut [u32], due: &mut [u32]) -> Result<Order, Fault> {
+            read(file, work, due)
+        }
+    }
+
+    #[test]
+    fn read_is_a_way(rt: HostRuntime) {
+        let mut work = [7; 1000];
+        let mut due = [7; 1000];
+        let ended = read_by::<AsRead>(b"(order 2 (group 9 (job 3 8)))", &mut work, &mut due);
+        let seen = said(ended);
+        assert_eq!(rt; seen.refusal, 0);
+        assert_eq!(rt; seen.boards, 2);
+        assert_eq!(rt; seen.jobs, 1);
+        assert_eq!(rt; work[0], 3);
+        assert_eq!(rt; due[0], 8);
+        assert_eq!(rt; work[1], 0);
+    }
 }
