@@ -143,7 +143,7 @@ pub record Long (s : Cursor) : Type 0 where
   pub long_due : most_jobs ≤ length s.due.now
   pub long_least : most_levels ≤ length s.least.now
 
--- the same file, the same works and dues, and each list as long as before
+-- the same file, the same lists of works and dues, and each list as long as before
 pub record Lent (s s' : Cursor) : Type 0 where
   pub same_file : s'.file.now ≡ s.file.now
   pub same_work : s'.work.ghost_name ≡ s.work.ghost_name
@@ -152,7 +152,7 @@ pub record Lent (s s' : Cursor) : Type 0 where
   pub length_due : length s'.due.now ≡ length s.due.now
   pub length_least : length s'.least.now ≡ length s.least.now
 
--- and the same least dues: each list is the one that was lent
+-- and the same list of least dues: each list is the one that was lent
 pub record LentAll (s s' : Cursor) : Type 0 where
   pub lent : Lent s s'
   pub same_least : s'.least.ghost_name ≡ s.least.ghost_name

@@ -377,3 +377,27 @@ pub fn clear_behind(ended: Result<Order, Fault>, work: &mut [u32], due: &mut [u3
     clear_from(work, kept);
     clear_from(due, kept);
 }
+
+#[cfg(test)]
+mod tests {
+    use super::*;
+
+    // Who lends the least dues knows what that list ends as: what `least` and `same_least` say.
+    fn begun_and_left(file: &[u8], work: &mut [u32], due: &mut [u32], least: &mut [u32])
+        ensures { least.new ≡ least.old }
+    {
+        let mut cursor = Cursor::start(file, work, due, least);
+        cursor.want_next(Wanted::ItemOrClose);
+        cursor.leave();
+    }
+
+    #[test]
+    fn least_dues_stay(rt: HostRuntime) {
+        let mut work = [7; 2];
+        let mut due = [7; 2];
+        let mut least = [5; 2];
+        begun_and_left(b"()", &mut work, &mut due, &mut least);
+        assert_eq!(rt; least[0], 5);
+        assert_eq!(rt; least[1], 5);
+    }
+}

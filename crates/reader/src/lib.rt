@@ -117,7 +117,7 @@ pub fn read_order(file: &[u8], work: &mut [u32], due: &mut [u32]) -> OrderRead
 mod tests {
     use super::*;
 
-    // A way of another crate that asks `read`: what `finished` says.
+    // A way as another crate could write it: it asks `read`, whose clause `finished` says what a way promises.
     struct AsRead;
 
     impl Way for AsRead {
